@@ -1,0 +1,6 @@
+pub mod Outcome
+pub mod Effects
+pub mod Sweeping
+pub mod Steps
+pub mod OnTable
+pub mod Calls
