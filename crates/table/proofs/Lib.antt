@@ -4,4 +4,5 @@ pub mod ByPlace
 pub mod Along
 pub mod Flat
 pub mod Places
+pub mod Blanks
 pub mod Sound

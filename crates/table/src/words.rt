@@ -10,9 +10,10 @@ use numbers::Task;
 ghost use mathlib.Core.Path.{_≡_};
 ghost use mathlib.Core.Bool.{true};
 ghost use Prim.Native.Nat.{_+_, _-_, _*_, _≤_, _<_};
-ghost use lib.ListN.{length};
+ghost use lib.ListN.{length, replicate};
+ghost use Rattle.table.specs.Blank.{blank};
 ghost use Rattle.table.specs.State.{taskOf, blockOf, slotOf, withTask, withBlock, withSlot, withEpoch};
-ghost use Rattle.table.specs.Words.{Exact, isExact, sound, stateOf, words, tasksIn, blocksIn, headerWidth, taskWidth, blockWidth, slotWidth, blocksAt, slotsAt};
+ghost use Rattle.table.specs.Words.{Exact, isExact, sound, stateOf, words, tasksIn, blocksIn, lengthFor, headerWidth, taskWidth, blockWidth, slotWidth, blocksAt, slotsAt};
 ghost use Rattle.table.specs.Records.{taskRow, wordsRow, blockRow};
 
 // The header's words, and how many words a task and a block have.
@@ -37,6 +38,30 @@ pub fn is_exact(table: &[u32]) -> bool
         return false;
     }
     table.len() == HEADER + TASK * wide(table[0]) + BLOCK * wide(table[1]) + wide(table[2])
+}
+
+// Every word becomes 0.
+fn clear(table: &mut [u32])
+    ensures { λ _. ⌜ now (table .exit) ≡ replicate (length (now (table .entry))) 0 ⌝ }
+{
+    let mut i = 0;
+    while i < table.len() {
+        table[i] = 0;
+        i += 1;
+    }
+}
+
+// Every word becomes 0 but for the sizes and the rates, whatever stood there.
+pub fn put_blank(table: &mut [u32], t: u32, n: u32, p: u32, f: u32, e: u32)
+    requires { ⌜ length (now table) ≡ lengthFor t n p ⌝ }
+    ensures { λ _. ⌜ now (table .exit) ≡ words (blank t n p f e) ⌝ }
+{
+    clear(table);
+    table[0] = t;
+    table[1] = n;
+    table[2] = p;
+    table[3] = f;
+    table[4] = e;
 }
 
 pub fn tasks(table: &[u32]) -> u32
