@@ -1,0 +1,4 @@
+-- Laws that belong to no one function.
+pub mod Entries
+pub mod Cases
+pub mod Openings

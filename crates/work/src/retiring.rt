@@ -1,0 +1,52 @@
+// The words of a retirement, and the sweep where it follows.
+use numbers::Block;
+use numbers::Task;
+use table::records::BlockRecord;
+use table::words::block_at;
+use table::words::epoch;
+use table::words::per_sweep;
+use table::words::put_block;
+use walks::counting::Wanted;
+use walks::counting::count;
+use walks::sweeping::sweep_blocks;
+ghost use mathlib.Core.Path.{_≡_};
+ghost use Prim.Native.Nat.{_≤_};
+ghost use lib.ListN.{length};
+ghost use Rattle.table.specs.Words.{Exact, stateOf};
+ghost use Rattle.rules.specs.Steps.{sweepsNow, retiredIn, afterRetire};
+ghost use Rattle.rules.specs.OnTable.{inWords};
+ghost use Rattle.work.specs.Answers.{told};
+ghost use Rattle.work.specs.declared.answers.Answer.the-variants.{Done};
+
+// Whether the number of blocks retired by the task is divisible by E.
+fn sweeps_now(table: &[u32], task: Task) -> bool
+    requires { ⌜ Exact (now table) × (1 ≤ stateOf (now table) .perSweep) ⌝ }
+    ensures { λ r. ⌜ r ≡ sweepsNow (stateOf (now (table .entry))) (task .0) ⌝ }
+{
+    count(table, Wanted::RetiredBy(task)) % per_sweep(table) == 0
+}
+
+// Retires the block, sweeps where that follows, and returns how many blocks were freed.
+pub(crate) fn put_retired(table: &mut [u32], task: Task, block: Block) -> u32
+    requires { ⌜ Exact (now table) × (1 ≤ block .0) × (block .0 ≤ length (stateOf (now table) .blocks)) × (1 ≤ stateOf (now table) .perSweep) ⌝ }
+    ensures { λ r. ⌜ told (Done r) (now (table .exit)) ≡ inWords (afterRetire (retiredIn (stateOf (now (table .entry))) (task .0) (block .0)) (task .0)) ⌝ }
+{
+    let now = epoch(table);
+    let b = block_at(table, block);
+    let birth = b.birth;
+    put_block(
+        table,
+        block,
+        BlockRecord {
+            state: BlockRecord::RETIRED,
+            task,
+            birth,
+            retire: now,
+        },
+    );
+    if sweeps_now(table, task) {
+        sweep_blocks(table, task)
+    } else {
+        0
+    }
+}
