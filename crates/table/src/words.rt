@@ -30,6 +30,13 @@ fn wide(x: u32) -> usize
     x as usize
 }
 
+// How many words a table of these sizes has.
+pub fn length_for(t: u32, n: u32, p: u32) -> usize
+    ensures { λ r. ⌜ r ≡ lengthFor t n p ⌝ }
+{
+    HEADER + TASK * wide(t) + BLOCK * wide(n) + wide(p)
+}
+
 // Whether the slice is as long as its first words ask for.
 pub fn is_exact(table: &[u32]) -> bool
     ensures { λ r. ⌜ r ≡ isExact (now (table .entry)) ⌝ }
@@ -37,7 +44,7 @@ pub fn is_exact(table: &[u32]) -> bool
     if table.len() < HEADER {
         return false;
     }
-    table.len() == HEADER + TASK * wide(table[0]) + BLOCK * wide(table[1]) + wide(table[2])
+    table.len() == length_for(table[0], table[1], table[2])
 }
 
 // Every word becomes 0.
