@@ -4,3 +4,4 @@ pub mod Sweeping
 pub mod Steps
 pub mod OnTable
 pub mod Calls
+pub mod Terms

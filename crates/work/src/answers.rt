@@ -1,4 +1,6 @@
-// What a step answers.
+// What a step answers, and the numbers of an answer.
+ghost use mathlib.Core.Path.{_≡_};
+ghost use Rattle.work.specs.Answers.{refusalKind, kindOf, valueOf};
 
 // A refusal leaves every word of the table as it was.
 pub enum Refusal {
@@ -30,4 +32,45 @@ pub enum Answer {
     // A settle that found the epoch risen: look again.
     LookAgain,
     Refused(Refusal),
+}
+
+impl Refusal {
+    pub fn kind(self) -> u32
+        ensures { λ r. ⌜ r ≡ refusalKind self ⌝ }
+    {
+        match self {
+            Refusal::Unsound => 1,
+            Refusal::BadSize => 2,
+            Refusal::NotThere => 3,
+            Refusal::WrongPhase => 4,
+            Refusal::NoSlot => 5,
+            Refusal::NoBlock => 6,
+            Refusal::WrongBlock => 7,
+            Refusal::StillNamed => 8,
+            Refusal::NoneFree => 9,
+            Refusal::Exhausted => 10,
+        }
+    }
+}
+
+impl Answer {
+    pub fn kind(self) -> u32
+        ensures { λ r. ⌜ r ≡ kindOf self ⌝ }
+    {
+        match self {
+            Answer::Done(_) => 0,
+            Answer::LookAgain => 11,
+            Answer::Refused(refusal) => refusal.kind(),
+        }
+    }
+
+    pub fn value(self) -> u32
+        ensures { λ r. ⌜ r ≡ valueOf self ⌝ }
+    {
+        match self {
+            Answer::Done(value) => value,
+            Answer::LookAgain => 0,
+            Answer::Refused(_) => 0,
+        }
+    }
 }
