@@ -1,11 +1,11 @@
 -- No second answer and table meet a promise: one theorem over the ten steps. Assumes nothing.
 use Prim.Native.Nat.{ℕ}
 use mathlib.Core.Path.{_≡_, refl, sym, ap, ap₂, _∙_}
-use mathlib.Core.Bool.{Bool, cond}
+use mathlib.Core.Bool.{cond}
 use mathlib.Core.List.{List}
 use lib.Dec.{eqb}
 use Rattle.rules.specs.OnTable.{Result}
-use Rattle.work.specs.Answers.{refusalKind, kindOf, valueOf, told}
+use Rattle.work.specs.Answers.{kindOf, valueOf, told}
 use Rattle.work.specs.declared.answers.Answer.{Answer}
 use Rattle.work.specs.declared.answers.Answer.the-variants.{Done, LookAgain, Refused}
 use Rattle.work.specs.declared.answers.Refusal.{Refusal}

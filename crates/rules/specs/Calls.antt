@@ -5,7 +5,7 @@ use mathlib.Core.List.{List, [], _∷_}
 use lib.Dec.{eqb}
 use Rattle.table.specs.State.{State}
 use Rattle.rules.specs.Outcome.{Outcome}
-use Rattle.rules.specs.OnTable.{Result, onTable}
+use Rattle.rules.specs.OnTable.{onTable}
 use Rattle.rules.specs.Steps.{start, look, settle, make, swap, retire, sweep, end, tally}
 
 pub data Call : Type 0 where

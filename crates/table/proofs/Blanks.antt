@@ -1,7 +1,7 @@
 -- A table of zeros, once its sizes and rates stand in it, is the blank state's words. Assumes nothing.
 use Prim.Native.Nat.{ℕ, zero, suc, _+_, _*_}
 use mathlib.Core.Path.{_≡_, refl, sym, ap, _∙_}
-use mathlib.Core.List.{List, [], _∷_, _++_}
+use mathlib.Core.List.{List, _++_}
 use native.Mathlib.Nat.{add-comm, mul-zero, mul-suc}
 use native.Mathlib.Omega.{arith}
 use lib.ListN.{set, replicate, length-replicate, replicate-append-replicate}

@@ -7,7 +7,6 @@ use native.Mathlib.Numerals.{add-one}
 use native.Mathlib.Omega.{arith}
 use lib.ListN.{length, getD, take, drop, set, length-append, length-set, length-drop, take-append-drop}
 use lib.Seq.{sets, drop-cons, drop-drop, take-all, getD-append-add, getD-append-seam, set-getD}
-use Rattle.table.specs.Lists.{fromOne}
 use Rattle.table.specs.State.{TaskRow, BlockRow, State, taskOf, blockOf, slotOf, idleTask, freeBlock, withTask, withBlock, withBlocks, withSlot, withEpoch}
 use Rattle.table.specs.Words.{flat, readFrom, taskWords, taskAt, blockWords, blockAt, slotWords, slotAt, header, words, stateOf, headerWidth, taskWidth, blockWidth, slotWidth, blocksAt, slotsAt, tasksIn, blocksIn, slotsIn, Exact}
 use Rattle.table.proofs.ByPlace.{from-one, put-from-one}

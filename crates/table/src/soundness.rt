@@ -16,7 +16,7 @@ use numbers::Epoch;
 use numbers::Slot;
 use numbers::Task;
 ghost use mathlib.Core.Path.{_≡_};
-ghost use Prim.Native.Nat.{_≤_, _<_};
+ghost use Prim.Native.Nat.{_<_};
 ghost use lib.ListN.{length};
 ghost use Rattle.table.specs.State.{slotOf};
 ghost use Rattle.table.specs.Soundness.{sized, soundTask, soundBlock, soundSlot, soundNumbers, soundTasks, soundBlocks, soundSlots};

@@ -1,11 +1,11 @@
 -- One law for each way out of each step: from what the code found there to the step's rule. Assumes nothing.
-use Prim.Native.Nat.{ℕ, _+_, _≤_, _<_}
-use mathlib.Core.Path.{_≡_, refl, sym, ap, ap₂, _∙_, subst}
+use Prim.Native.Nat.{ℕ, _≤_, _<_}
+use mathlib.Core.Path.{_≡_, refl, sym, ap, ap₂, _∙_}
 use mathlib.Core.Logic.{_≢_}
-use mathlib.Core.Bool.{Bool, true, false, cond, not, _||_}
+use mathlib.Core.Bool.{Bool, true, false, not, _||_}
 use mathlib.Core.List.{List, [], _∷_}
 use lib.ListN.{length}
-use lib.Dec.{leb, ltb, eqb, T}
+use lib.Dec.{eqb}
 use native.Mathlib.Omega.{arith}
 use borrow.Author.Tests.{le-leb, lt-leb, le-ltb, lt-ltb, eq-eqb, ne-eqb, eqb-true, not-true, not-false}
 use Rattle.numbers.specs.Epochs.{lastEpoch}
@@ -20,14 +20,12 @@ use Rattle.table.specs.declared.records.Phase.the-variants.{Idle, Working, Look
 use Rattle.table.proofs.ByPlace.{first-none}
 use Rattle.table.proofs.Places.{words-stateOf}
 use Rattle.table.proofs.Sound.{exact}
-use Rattle.rules.specs.Outcome.{Outcome, answers, refusedWhere, checked}
-use Rattle.rules.specs.Effects.{begun, looking, settled, ended, shown, shownIfMade}
-use Rattle.rules.specs.Sweeping.{freedBy, swept, sweepDone}
+use Rattle.rules.specs.Outcome.{Outcome, refusedWhere, checked}
+use Rattle.rules.specs.Effects.{looking, settled, ended, shown, shownIfMade}
+use Rattle.rules.specs.Sweeping.{sweepDone}
 use Rattle.rules.specs.Steps.{noSlot, aboveN, inHand, named, lowestFree, mostMakes, epochAfter, exhausted, madeAt, shownIn, retiredIn, afterRetire, inState, start, startDone, look, lookDone, settle, settleDone, make, makeDone, swap, swapDone, retire, retireDone, sweep, end, endDone, tally}
 use Rattle.rules.specs.OnTable.{result, inWords}
-use Rattle.work.specs.Answers.{told}
 use Rattle.work.specs.Entering.{entering, Inside}
-use Rattle.work.specs.declared.answers.Answer.the-variants.{Done}
 use Rattle.work.specs.declared.entering.Asked.{Asked}
 use Rattle.work.proofs.Entries.{refused, own, does}
 

@@ -1,15 +1,15 @@
 -- A step on a task of a sound table: refused by its first checks, refused by a later one, or done. Assumes nothing.
 use Prim.Native.Nat.{ℕ, _≤_, _<_}
-use mathlib.Core.Path.{_≡_, refl, sym, ap, _∙_, subst}
+use mathlib.Core.Path.{_≡_, sym, ap, _∙_, subst}
 use mathlib.Core.Bool.{Bool, true, false}
-use mathlib.Core.List.{List, [], _∷_}
+use mathlib.Core.List.{List}
 use lib.ListN.{length}
 use borrow.Author.Tests.{le-leb, lt-leb}
-use Rattle.table.specs.State.{TaskRow, State, taskOf, isIdle, isWorking, isLooking}
+use Rattle.table.specs.State.{TaskRow, State, taskOf}
 use Rattle.table.specs.Words.{sound, stateOf, words}
 use Rattle.table.proofs.Places.{words-stateOf}
 use Rattle.table.proofs.Sound.{exact}
-use Rattle.rules.specs.Outcome.{Outcome, answers, checked}
+use Rattle.rules.specs.Outcome.{Outcome, answers}
 use Rattle.rules.specs.OnTable.{result, inWords}
 use Rattle.work.specs.Answers.{told}
 use Rattle.work.specs.Entering.{asks, entering, Inside, Entered}

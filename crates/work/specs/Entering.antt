@@ -1,7 +1,7 @@
 -- What the first checks of a step on a task leave: the task's record, or a refusal whatever comes after. Assumes nothing.
 use Prim.Native.Nat.{ℕ, _<_}
 use mathlib.Core.Path.{_≡_}
-use mathlib.Core.Bool.{Bool, true, cond}
+use mathlib.Core.Bool.{Bool, true}
 use mathlib.Core.List.{List, [], _∷_}
 use lib.ListN.{length}
 use Rattle.table.specs.State.{TaskRow, State, taskOf, isIdle, isWorking, isLooking}

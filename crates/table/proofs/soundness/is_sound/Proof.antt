@@ -3,7 +3,7 @@ use mathlib.Core.Path.{_≡_, sym, _∙_}
 use mathlib.Core.Bool.{true}
 use borrow.Author.Tests.{eqb-true, not-false, not-true}
 use Rattle.table.specs.Soundness.{soundState}
-use Rattle.table.specs.Words.{Exact, isExact, sound}
+use Rattle.table.specs.Words.{isExact, sound}
 use borrow.Author.Needs.{needs}
 use Rattle.table.proofs.soundness.is_sound.Statement.{statement}
 use Rattle.table.proofs.soundness.is_sound.Tie as tie

@@ -1,9 +1,9 @@
 -- `table::soundness::slot_sound` meets its contract: a number above N reads as a free block. Assumes nothing.
-use mathlib.Core.Path.{_≡_, sym, ap, _∙_}
-use mathlib.Core.Bool.{Bool, true, false}
+use mathlib.Core.Path.{_≡_}
+use mathlib.Core.Bool.{false}
 use native.Mathlib.Omega.{arith}
-use borrow.Author.Tests.{eq-eqb, ne-eqb}
-use Rattle.table.specs.State.{BlockRow, isShown, blockOf}
+use borrow.Author.Tests.{ne-eqb}
+use Rattle.table.specs.State.{isShown, blockOf}
 use Rattle.table.specs.Words.{stateOf}
 use Rattle.table.proofs.Sound.{numbered}
 use borrow.Author.Needs.{needs}

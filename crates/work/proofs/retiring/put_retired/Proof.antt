@@ -3,7 +3,6 @@ use Prim.Native.Nat.{ℕ, _≤_}
 use mathlib.Core.Path.{_≡_, sym, ap, ap₂, _∙_, subst}
 use Rattle.table.specs.State.{State, BlockRow, withBlock}
 use Rattle.table.specs.Words.{stateOf, words}
-use Rattle.table.specs.Records.{blockRow}
 use Rattle.table.proofs.Places.{says}
 use Rattle.rules.specs.Effects.{retired}
 use Rattle.rules.specs.Sweeping.{freedBy, swept}

@@ -1,6 +1,6 @@
 -- `work::showing::show` meets its contract. Assumes nothing.
-use mathlib.Core.Path.{_≡_, sym, ap, _∙_}
-use Rattle.table.specs.State.{BlockRow, blockOf, withBlock}
+use mathlib.Core.Path.{ap, _∙_}
+use Rattle.table.specs.State.{BlockRow, withBlock}
 use Rattle.table.specs.Words.{stateOf, words}
 use Rattle.table.proofs.Places.{block-same}
 use Rattle.work.proofs.Cases.{shown-made, shown-other}
