@@ -1,4 +1,5 @@
 // Freeing the blocks that a task has retired and no interval meets.
+use effects::freed;
 use numbers::Block;
 use numbers::Epoch;
 use numbers::Task;
@@ -54,16 +55,7 @@ fn sweep_block(table: &mut [u32], task: Task, block: Block) -> u32
 {
     let r = block_at(table, block);
     if frees(table, task, r) {
-        put_block(
-            table,
-            block,
-            BlockRecord {
-                state: BlockRecord::FREE,
-                task: Task(0),
-                birth: Epoch(0),
-                retire: Epoch(0),
-            },
-        );
+        put_block(table, block, freed());
         1
     } else {
         0

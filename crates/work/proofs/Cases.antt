@@ -21,7 +21,7 @@ use Rattle.table.proofs.ByPlace.{first-none}
 use Rattle.table.proofs.Places.{words-stateOf}
 use Rattle.table.proofs.Sound.{exact}
 use Rattle.rules.specs.Outcome.{Outcome, refusedWhere, checked}
-use Rattle.rules.specs.Effects.{looking, settled, ended, shown, shownIfMade}
+use Rattle.rules.specs.Effects.{begun, looking, settled, ended, shown, shownIfMade}
 use Rattle.rules.specs.Sweeping.{sweepDone}
 use Rattle.rules.specs.Steps.{noSlot, aboveN, inHand, named, lowestFree, mostMakes, epochAfter, exhausted, madeAt, shownIn, retiredIn, afterRetire, inState, start, startDone, look, lookDone, settle, settleDone, make, makeDone, swap, swapDone, retire, retireDone, sweep, end, endDone, tally}
 use Rattle.rules.specs.OnTable.{result, inWords}
@@ -87,44 +87,51 @@ no-candidate Idle n = refl
 no-candidate Working n = refl
 no-candidate (Looked b) n = absurd (n refl)
 
--- start, look, settle and end: the task's record is put anew
+-- start, look, settle and end: the task's record is put anew, as x, which is what the step makes of the record that the code read
 module _ (t : List ℕ) (k : ℕ) (r : TaskRecord) where
-  pub start-done : (h : Inside t k Asked.Idle r) (now : ℕ) (t′ : List ℕ) → now ≡ stateOf t .epoch
-      → t′ ≡ words (withTask (stateOf t) k (record { lower = now; upper = now; makes = r .makes; phase = 1; candidate = 0 }))
-      → result 0 now t′ ≡ inWords (start (stateOf t) k)
-  start-done h now t′ p w =
+  pub start-candidate : Inside t k Asked.Idle r → candidateOf (r .phase) ≡ 0
+  start-candidate h =
       let idle : phaseNumber (r .phase) ≡ 0 = ap (λ (x : TaskRow). x .phase) (h .row) ∙ eqb-true _ 0 (h .phase) in
-      let none : candidateOf (r .phase) ≡ 0 = no-candidate (r .phase) (λ z. omega arith) in
-      ap₂ (result 0) p (w ∙ rw (p, ← h .row, none)) ∙ does t k Asked.Idle r h _ _ (start-enters (stateOf t) k) 0 _ _ refl
+      no-candidate (r .phase) (λ z. omega arith)
+
+  put-anew : (f : TaskRow → TaskRow) (x : TaskRow) (t′ : List ℕ) → taskRow r ≡ taskOf (stateOf t) k → x ≡ f (taskRow r) → t′ ≡ words (withTask (stateOf t) k x)
+      → t′ ≡ words (withTask (stateOf t) k (f (taskOf (stateOf t) k)))
+  put-anew f x t′ row q w = w ∙ ap (λ (y : TaskRow). words (withTask (stateOf t) k y)) (q ∙ ap f row)
+
+  pub start-done : (h : Inside t k Asked.Idle r) (now : ℕ) (x : TaskRow) (t′ : List ℕ) → now ≡ stateOf t .epoch → x ≡ begun now (taskRow r)
+      → t′ ≡ words (withTask (stateOf t) k x) → result 0 now t′ ≡ inWords (start (stateOf t) k)
+  start-done h now x t′ p q w =
+      ap₂ (result 0) p (put-anew (begun (stateOf t .epoch)) x t′ (h .row) (q ∙ ap (λ (e : ℕ). begun e (taskRow r)) p) w)
+      ∙ does t k Asked.Idle r h _ _ (start-enters (stateOf t) k) 0 _ _ refl
 
   pub look-no-slot : (h : Inside t k Asked.Working r) → sound t ≡ true → (p : ℕ) → length (stateOf t .slots) ≤ p → result 5 0 t ≡ inWords (look (stateOf t) k p)
   look-no-slot h e p l = own t k Asked.Working r h _ _ (look-enters (stateOf t) k p) e 5 (rw (le-leb (length (stateOf t .slots)) p l))
 
-  pub look-done : (h : Inside t k Asked.Working r) (p content : ℕ) (t′ : List ℕ) → p < length (stateOf t .slots) → content ≡ slotOf (stateOf t) p
-      → t′ ≡ words (withTask (stateOf t) k (looking content (taskRow r))) → result 0 0 t′ ≡ inWords (look (stateOf t) k p)
-  look-done h p content t′ l c w =
-      ap (result 0 0) (w ∙ ap₂ (λ (v : ℕ) (x : TaskRow). words (withTask (stateOf t) k (looking v x))) c (h .row)) ∙ does t k Asked.Working r h _ _ (look-enters (stateOf t) k p) 0 0 _ (rw (lt-leb (length (stateOf t .slots)) p l))
+  pub look-done : (h : Inside t k Asked.Working r) (p content : ℕ) (x : TaskRow) (t′ : List ℕ) → p < length (stateOf t .slots) → content ≡ slotOf (stateOf t) p
+      → x ≡ looking content (taskRow r) → t′ ≡ words (withTask (stateOf t) k x) → result 0 0 t′ ≡ inWords (look (stateOf t) k p)
+  look-done h p content x t′ l c q w =
+      ap (result 0 0) (put-anew (looking (slotOf (stateOf t) p)) x t′ (h .row) (q ∙ ap (λ (v : ℕ). looking v (taskRow r)) c) w)
+      ∙ does t k Asked.Working r h _ _ (look-enters (stateOf t) k p) 0 0 _ (rw (lt-leb (length (stateOf t .slots)) p l))
 
   -- settle leaves the same words whether the candidate is handed out or not
-  settled-words : (h : Inside t k Asked.Looking r) (now : ℕ) (t′ : List ℕ) → now ≡ stateOf t .epoch
-      → t′ ≡ words (withTask (stateOf t) k (settled now (taskRow r))) → t′ ≡ words (withTask (stateOf t) k (settled (stateOf t .epoch) (taskOf (stateOf t) k)))
-  settled-words h now t′ p w = w ∙ ap₂ (λ (v : ℕ) (x : TaskRow). words (withTask (stateOf t) k (settled v x))) p (h .row)
+  module _ (h : Inside t k Asked.Looking r) (now : ℕ) (x : TaskRow) (t′ : List ℕ) (p : now ≡ stateOf t .epoch) (q : x ≡ settled now (taskRow r))
+      (w : t′ ≡ words (withTask (stateOf t) k x)) where
+    settled-words : t′ ≡ words (withTask (stateOf t) k (settled (stateOf t .epoch) (taskOf (stateOf t) k)))
+    settled-words = put-anew (settled (stateOf t .epoch)) x t′ (h .row) (q ∙ ap (λ (e : ℕ). settled e (taskRow r)) p) w
 
-  pub settle-done : (h : Inside t k Asked.Looking r) (now : ℕ) (t′ : List ℕ) → now ≡ stateOf t .epoch
-      → t′ ≡ words (withTask (stateOf t) k (settled now (taskRow r))) → r .upper .0 ≡ now → result 0 (candidateOf (r .phase)) t′ ≡ inWords (settle (stateOf t) k)
-  settle-done h now t′ p w u =
-      let same : eqb (taskOf (stateOf t) k .upper) (stateOf t .epoch) ≡ true = eq-eqb _ _ (sym (ap (λ (x : TaskRow). x .upper) (h .row)) ∙ u ∙ p) in
-      ap₂ (result 0) (ap (λ (x : TaskRow). x .candidate) (h .row)) (settled-words h now t′ p w)
-      ∙ does t k Asked.Looking r h _ _ (settle-enters (stateOf t) k) 0 _ _ (rw same)
+    pub settle-done : r .upper .0 ≡ now → result 0 (candidateOf (r .phase)) t′ ≡ inWords (settle (stateOf t) k)
+    settle-done u =
+        let same : eqb (taskOf (stateOf t) k .upper) (stateOf t .epoch) ≡ true = eq-eqb _ _ (sym (ap (λ (y : TaskRow). y .upper) (h .row)) ∙ u ∙ p) in
+        ap₂ (result 0) (ap (λ (y : TaskRow). y .candidate) (h .row)) settled-words ∙ does t k Asked.Looking r h _ _ (settle-enters (stateOf t) k) 0 _ _ (rw same)
 
-  pub settle-again : (h : Inside t k Asked.Looking r) (now : ℕ) (t′ : List ℕ) → now ≡ stateOf t .epoch
-      → t′ ≡ words (withTask (stateOf t) k (settled now (taskRow r))) → r .upper .0 ≢ now → result 11 0 t′ ≡ inWords (settle (stateOf t) k)
-  settle-again h now t′ p w u =
-      let differ : eqb (taskOf (stateOf t) k .upper) (stateOf t .epoch) ≡ false = ne-eqb _ _ (λ z. u (ap (λ (x : TaskRow). x .upper) (h .row) ∙ z ∙ sym p)) in
-      ap (result 11 0) (settled-words h now t′ p w) ∙ does t k Asked.Looking r h _ _ (settle-enters (stateOf t) k) 11 0 _ (rw differ)
+    pub settle-again : r .upper .0 ≢ now → result 11 0 t′ ≡ inWords (settle (stateOf t) k)
+    settle-again u =
+        let differ : eqb (taskOf (stateOf t) k .upper) (stateOf t .epoch) ≡ false = ne-eqb _ _ (λ z. u (ap (λ (y : TaskRow). y .upper) (h .row) ∙ z ∙ sym p)) in
+        ap (result 11 0) settled-words ∙ does t k Asked.Looking r h _ _ (settle-enters (stateOf t) k) 11 0 _ (rw differ)
 
-  pub end-done : (h : Inside t k Asked.Working r) (t′ : List ℕ) → t′ ≡ words (withTask (stateOf t) k (ended (taskRow r))) → result 0 0 t′ ≡ inWords (end (stateOf t) k)
-  end-done h t′ w = ap (result 0 0) (w ∙ ap (λ (x : TaskRow). words (withTask (stateOf t) k (ended x))) (h .row)) ∙ does t k Asked.Working r h _ _ (end-enters (stateOf t) k) 0 0 _ refl
+  pub end-done : (h : Inside t k Asked.Working r) (x : TaskRow) (t′ : List ℕ) → x ≡ ended (taskRow r) → t′ ≡ words (withTask (stateOf t) k x)
+      → result 0 0 t′ ≡ inWords (end (stateOf t) k)
+  end-done h x t′ q w = ap (result 0 0) (put-anew ended x t′ (h .row) q w) ∙ does t k Asked.Working r h _ _ (end-enters (stateOf t) k) 0 0 _ refl
 
 -- whether a make is exhausted, by what the code tests
 module _ (s : State) (makes : ℕ) where
@@ -170,8 +177,8 @@ module _ (t : List ℕ) (k : ℕ) (r : TaskRecord) (h : Inside t k Asked.Working
 
 -- what becomes of a block that a slot gets, by the record that the code read; block 0 is none
 module _ (b : BlockRecord) (x : BlockRow) (q : blockRow b ≡ x) where
-  pub shown-made : b .state ≡ 1 → shown (blockRow b) ≡ shownIfMade x
-  shown-made p = rw (← q, p)
+  pub shown-made : (y : BlockRow) → b .state ≡ 1 → y ≡ shown (blockRow b) → y ≡ shownIfMade x
+  shown-made y p e = e ∙ rw (← q, p)
 
   pub shown-other : b .state ≢ 1 → x ≡ shownIfMade x
   shown-other n = rw (← q, ne-eqb (b .state) 1 n)

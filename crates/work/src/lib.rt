@@ -8,6 +8,10 @@ mod showing;
 
 use answers::Answer;
 use answers::Refusal;
+use effects::begun;
+use effects::ended;
+use effects::looking;
+use effects::settled;
 use entering::Asked;
 use entering::Entry;
 use entering::enter;
@@ -21,8 +25,6 @@ use retiring::put_retired;
 use showing::in_hand;
 use showing::may_show;
 use showing::put_shown;
-use table::records::Phase;
-use table::records::TaskRecord;
 use table::words::block_at;
 use table::words::blocks;
 use table::words::epoch;
@@ -52,16 +54,7 @@ pub fn start(table: &mut [u32], task: Task) -> Answer
         Entry::Out(x) => Answer::Refused(x),
         Entry::At(r) => {
             let now = epoch(table);
-            put_task(
-                table,
-                task,
-                TaskRecord {
-                    lower: now,
-                    upper: now,
-                    makes: r.makes,
-                    phase: Phase::Working,
-                },
-            );
+            put_task(table, task, begun(r, now));
             Answer::Done(now.0)
         }
     }
@@ -77,19 +70,8 @@ pub fn look(table: &mut [u32], task: Task, slot: Slot) -> Answer
             if slot.0 >= slots(table) {
                 return Answer::Refused(Refusal::NoSlot);
             }
-            let candidate = slot_at(table, slot);
-            let lower = r.lower;
-            let upper = r.upper;
-            put_task(
-                table,
-                task,
-                TaskRecord {
-                    lower,
-                    upper,
-                    makes: r.makes,
-                    phase: Phase::Looked(candidate),
-                },
-            );
+            let content = slot_at(table, slot);
+            put_task(table, task, looking(r, content));
             Answer::Done(0)
         }
     }
@@ -103,19 +85,9 @@ pub fn settle(table: &mut [u32], task: Task) -> Answer
         Entry::Out(x) => Answer::Refused(x),
         Entry::At(r) => {
             let now = epoch(table);
-            let lower = r.lower;
             let phase = r.phase;
             let candidate = phase.candidate();
-            put_task(
-                table,
-                task,
-                TaskRecord {
-                    lower,
-                    upper: now,
-                    makes: r.makes,
-                    phase: Phase::Working,
-                },
-            );
+            put_task(table, task, settled(r, now));
             if r.upper.0 == now.0 {
                 return Answer::Done(candidate.0);
             }
@@ -213,16 +185,7 @@ pub fn end(table: &mut [u32], task: Task) -> Answer
     match enter(table, task, Asked::Working) {
         Entry::Out(x) => Answer::Refused(x),
         Entry::At(r) => {
-            put_task(
-                table,
-                task,
-                TaskRecord {
-                    lower: Epoch::IDLE,
-                    upper: Epoch::IDLE,
-                    makes: r.makes,
-                    phase: Phase::Idle,
-                },
-            );
+            put_task(table, task, ended(r));
             Answer::Done(0)
         }
     }

@@ -1,8 +1,9 @@
 // The epoch after a make, and the words of a make.
+use effects::counted;
+use effects::made;
 use numbers::Block;
 use numbers::Epoch;
 use numbers::Task;
-use table::records::BlockRecord;
 use table::records::TaskRecord;
 use table::words::epoch;
 use table::words::per_epoch;
@@ -15,10 +16,10 @@ ghost use lib.ListN.{length};
 ghost use Rattle.table.specs.State.{taskOf};
 ghost use Rattle.table.specs.Records.{taskRow};
 ghost use Rattle.table.specs.Words.{Exact, stateOf, words};
-ghost use Rattle.rules.specs.Steps.{raises, epochAfter, madeAt};
+ghost use Rattle.rules.specs.Steps.{raises, epochAfter, madeAt, mostMakes};
 
 fn raises(f: u32, makes: u32) -> bool
-    requires { ⌜ (1 ≤ f) × (makes < 4294967295) ⌝ }
+    requires { ⌜ (1 ≤ f) × (makes < mostMakes) ⌝ }
     ensures { λ r. ⌜ r ≡ raises f makes ⌝ }
 {
     (makes + 1) % f == 0
@@ -26,7 +27,7 @@ fn raises(f: u32, makes: u32) -> bool
 
 // The epoch after a make by a task that has made so many.
 pub(crate) fn epoch_after(table: &[u32], makes: u32) -> Epoch
-    requires { ⌜ Exact (now table) × (1 ≤ stateOf (now table) .perEpoch) × (stateOf (now table) .epoch < 4294967295) × (makes < 4294967295) ⌝ }
+    requires { ⌜ Exact (now table) × (1 ≤ stateOf (now table) .perEpoch) × (stateOf (now table) .epoch < 4294967295) × (makes < mostMakes) ⌝ }
     ensures { λ r. ⌜ r .0 ≡ epochAfter (stateOf (now (table .entry))) makes ⌝ }
 {
     let now = epoch(table);
@@ -38,31 +39,10 @@ pub(crate) fn epoch_after(table: &[u32], makes: u32) -> Epoch
 }
 
 pub(crate) fn put_made(table: &mut [u32], task: Task, r: TaskRecord, block: Block, birth: Epoch)
-    requires { ⌜ Exact (now table) × (task .0 < length (stateOf (now table) .tasks)) × (taskRow r ≡ taskOf (stateOf (now table)) (task .0)) × (r .makes < 4294967295) × (1 ≤ block .0) × (block .0 ≤ length (stateOf (now table) .blocks)) ⌝ }
+    requires { ⌜ Exact (now table) × (task .0 < length (stateOf (now table) .tasks)) × (taskRow r ≡ taskOf (stateOf (now table)) (task .0)) × (r .makes < mostMakes) × (1 ≤ block .0) × (block .0 ≤ length (stateOf (now table) .blocks)) ⌝ }
     ensures { λ _. ⌜ now (table .exit) ≡ words (madeAt (stateOf (now (table .entry))) (task .0) (block .0) (birth .0)) ⌝ }
 {
     put_epoch(table, birth);
-    let lower = r.lower;
-    let upper = r.upper;
-    let phase = r.phase;
-    put_task(
-        table,
-        task,
-        TaskRecord {
-            lower,
-            upper,
-            makes: r.makes + 1,
-            phase,
-        },
-    );
-    put_block(
-        table,
-        block,
-        BlockRecord {
-            state: BlockRecord::MADE,
-            task,
-            birth,
-            retire: Epoch(0),
-        },
-    );
+    put_task(table, task, counted(r));
+    put_block(table, block, made(task, birth));
 }

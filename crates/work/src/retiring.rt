@@ -1,7 +1,7 @@
 // The words of a retirement, and the sweep where it follows.
+use effects::retired;
 use numbers::Block;
 use numbers::Task;
-use table::records::BlockRecord;
 use table::words::block_at;
 use table::words::epoch;
 use table::words::per_sweep;
@@ -33,17 +33,7 @@ pub(crate) fn put_retired(table: &mut [u32], task: Task, block: Block) -> u32
 {
     let now = epoch(table);
     let b = block_at(table, block);
-    let birth = b.birth;
-    put_block(
-        table,
-        block,
-        BlockRecord {
-            state: BlockRecord::RETIRED,
-            task,
-            birth,
-            retire: now,
-        },
-    );
+    put_block(table, block, retired(b, task, now));
     if sweeps_now(table, task) {
         sweep_blocks(table, task)
     } else {

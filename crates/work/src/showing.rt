@@ -1,4 +1,5 @@
 // Which blocks a task may show or retire, and the words of a swap.
+use effects::shown;
 use numbers::Block;
 use numbers::Slot;
 use numbers::Task;
@@ -42,18 +43,7 @@ fn show(table: &mut [u32], block: Block)
 {
     let r = block_at(table, block);
     if r.state == BlockRecord::MADE {
-        let birth = r.birth;
-        let retire = r.retire;
-        put_block(
-            table,
-            block,
-            BlockRecord {
-                state: BlockRecord::SHOWN,
-                task: Task(0),
-                birth,
-                retire,
-            },
-        );
+        put_block(table, block, shown(r));
     }
 }
 

@@ -14,9 +14,9 @@ inside c = at _ _ _ _ (c .before .before .enter .ensures) (c .r .given .1)
 pub end-spec : {M : Type 1} → statement M
 end-spec =
     tie.close
-    (tie.spec (λ c κs. search needs) (λ c. search needs) (λ c. search needs)
-    (λ c κs. (exact _ (c .before .before .before .before .before .before .before .pre), inside (c .before .before) .below))
+    (tie.spec (λ c κs. search needs) (λ c. search needs) (λ c. search needs) (λ c κs. search needs)
+    (λ c κs. (exact _ (c .before .before .before .before .before .before .before .before .pre), inside (c .before .before .before) .below))
     (λ c. search needs)
     (λ c. out _ _ _ _ (c .before .before .before .enter .ensures) (c .before .x .given .1) _ (end-enters _ _))
     (λ c. search needs)
-    (λ c. end-done _ _ _ (inside (c .before .before .before .before .before)) _ (c .before .before .put-task .ensures)))
+    (λ c. end-done _ _ _ (inside (c .before .before .before .before .before .before)) _ _ (c .before .before .before .ended .ensures) (c .before .before .put-task .ensures)))

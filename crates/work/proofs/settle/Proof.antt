@@ -19,10 +19,11 @@ settle-spec =
     tie.close
     (tie.spec (λ c κs. search needs) (λ c. search needs) (λ c. search needs)
     (λ c κs. exact _ (c .before .before .before .before .before .before .before .pre)) (λ c κs. search needs)
+    (λ c κs. search needs)
     (λ c κs. (exact _ (c .before .before .before .before .before .before .before .before .before .before .before .pre), inside (c .before .before .before .before .before .before) .below))
     (λ c. search needs)
-    (λ c. ap (λ (v : ℕ). result 0 v (c .before .before .before .before .before .put-task .last .0)) (c .before .before .before .before .before .before .before .candidate .ensures) ∙ settle-done _ _ _ (inside (c .before .before .before .before .before .before .before .before .before .before .before .before)) _ _ (c .before .before .before .before .before .before .before .before .before .epoch .ensures) (c .before .before .before .before .before .put-task .ensures) (c .if1 .taken))
+    (λ c. ap (λ (v : ℕ). result 0 v (c .before .before .before .before .before .put-task .last .0)) (c .before .before .before .before .before .before .before .before .candidate .ensures) ∙ settle-done _ _ _ (inside (c .before .before .before .before .before .before .before .before .before .before .before .before)) _ _ _ (c .before .before .before .before .before .before .before .before .before .epoch .ensures) (c .before .before .before .before .before .before .settled .ensures) (c .before .before .before .before .before .put-task .ensures) (c .if1 .taken))
     (λ c. search needs)
     (λ c. out _ _ _ _ (c .before .before .before .enter .ensures) (c .before .x .given .1) _ (settle-enters _ _))
     (λ c. search needs)
-    (λ c. settle-again _ _ _ (inside (c .before .before .before .before .before .before .before .before .before .before .before .before)) _ _ (c .before .before .before .before .before .before .before .before .before .epoch .ensures) (c .before .before .before .before .before .put-task .ensures) (c .if1 .left)))
+    (λ c. settle-again _ _ _ (inside (c .before .before .before .before .before .before .before .before .before .before .before .before)) _ _ _ (c .before .before .before .before .before .before .before .before .before .epoch .ensures) (c .before .before .before .before .before .before .settled .ensures) (c .before .before .before .before .before .put-task .ensures) (c .if1 .left)))

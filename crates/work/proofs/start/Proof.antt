@@ -3,7 +3,7 @@ use Rattle.table.proofs.Sound.{exact}
 use Rattle.work.specs.Entering.{Inside}
 use Rattle.work.specs.declared.entering.Asked.the-variants.{Idle}
 use Rattle.work.proofs.Entries.{at, out}
-use Rattle.work.proofs.Cases.{start-enters, start-done}
+use Rattle.work.proofs.Cases.{start-enters, start-candidate, start-done}
 use borrow.Author.Needs.{needs}
 use Rattle.work.proofs.start.Statement.{statement}
 use Rattle.work.proofs.start.Tie as tie
@@ -16,8 +16,9 @@ start-spec =
     tie.close
     (tie.spec (λ c κs. search needs) (λ c. search needs) (λ c. search needs)
     (λ c κs. exact _ (c .before .before .before .before .before .before .before .pre))
-    (λ c κs. (exact _ (c .before .before .before .before .before .before .before .before .before .pre), inside (c .before .before .before .before) .below))
+    (λ c κs. start-candidate _ _ _ (inside (c .before .before .before .before)))
+    (λ c κs. (exact _ (c .before .before .before .before .before .before .before .before .before .before .pre), inside (c .before .before .before .before .before) .below))
     (λ c. search needs)
     (λ c. out _ _ _ _ (c .before .before .before .enter .ensures) (c .before .x .given .1) _ (start-enters _ _))
     (λ c. search needs)
-    (λ c. start-done _ _ _ (inside (c .before .before .before .before .before .before .before)) _ _ (c .before .before .before .before .epoch .ensures) (c .before .before .put-task .ensures)))
+    (λ c. start-done _ _ _ (inside (c .before .before .before .before .before .before .before .before)) _ _ _ (c .before .before .before .before .before .epoch .ensures) (c .before .before .before .begun .ensures) (c .before .before .put-task .ensures)))

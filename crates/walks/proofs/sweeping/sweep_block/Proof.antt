@@ -1,8 +1,8 @@
 -- `walks::sweeping::sweep_block` meets its contract: a block that is not freed is as if put back. Assumes nothing.
 use mathlib.Core.Path.{_≡_, sym, ap, _∙_}
 use native.Mathlib.Omega.{arith}
-use Rattle.table.specs.State.{blockOf}
-use Rattle.table.specs.Words.{stateOf}
+use Rattle.table.specs.State.{BlockRow, blockOf, withBlock}
+use Rattle.table.specs.Words.{stateOf, words}
 use Rattle.rules.specs.Sweeping.{frees}
 use Rattle.table.proofs.Places.{block-same}
 use borrow.Author.Needs.{needs}
@@ -15,8 +15,9 @@ said c = sym (c .frees .ensures ∙ ap (frees (stateOf (c .before .before .befor
 
 returns : tie.Need-returns
 returns c =
-    let e = said (c .before .before .before .before .before) ∙ c .before .before .before .before .if1 .taken in
-    (rw e, omega arith, c .before .before .put-block .ensures ∙ rw e)
+    let e = said (c .before .before .before .before .before .before) ∙ c .before .before .before .before .before .if1 .taken in
+    let a = c .before .before .before .before .before .before .before .before .before .before .before .args in
+    (rw e, omega arith, c .before .before .put-block .ensures ∙ ap (λ (x : BlockRow). words (withBlock (stateOf (a .table .now)) (a .block .0) x)) (c .before .before .before .freed .ensures) ∙ rw e)
 
 returns-2 : tie.Need-returns-2
 returns-2 c =
@@ -26,5 +27,5 @@ returns-2 c =
 pub sweep-block-spec : {M : Type 1} → statement M
 sweep-block-spec =
     tie.close
-    (tie.spec (λ c κs. search needs) (λ c κs. search needs) (λ c κs. search needs) (λ c. search needs) returns (λ c. search needs)
-    returns-2)
+    (tie.spec (λ c κs. search needs) (λ c κs. search needs) (λ c κs. search needs) (λ c κs. search needs) (λ c. search needs) returns
+    (λ c. search needs) returns-2)

@@ -1,5 +1,5 @@
 -- `work::retiring::put_retired` meets its contract: the block is retired, and then the sweep follows or not. Assumes nothing.
-use Prim.Native.Nat.{ℕ, _≤_}
+use Prim.Native.Nat.{_≤_}
 use mathlib.Core.Path.{_≡_, sym, ap, ap₂, _∙_, subst}
 use Rattle.table.specs.State.{State, BlockRow, withBlock}
 use Rattle.table.specs.Words.{stateOf, words}
@@ -17,7 +17,8 @@ put : (c : tie.After-put-block) → c .put-block .last .0 ≡ words (retiredIn (
 put c =
     let a = c .before .before .before .before .before .before .before .before .args in
     c .put-block .ensures
-    ∙ ap₂ (λ (e : ℕ) (b : BlockRow). words (withBlock (stateOf (a .table .now)) (a .block .0) (retired (a .task .0) e b))) (c .before .before .before .before .before .epoch .ensures) (c .before .before .before .block-at .ensures)
+    ∙ ap (λ (x : BlockRow). words (withBlock (stateOf (a .table .now)) (a .block .0) x))
+    (c .before .retired .ensures ∙ ap₂ (retired (a .task .0)) (c .before .before .before .before .before .epoch .ensures) (c .before .before .before .block-at .ensures))
 
 state : (c : tie.After-put-block) → stateOf (c .put-block .last .0) ≡ retiredIn (stateOf (c .before .before .before .before .before .before .before .before .args .table .now)) (c .before .before .before .before .before .before .before .before .args .task .0) (c .before .before .before .before .before .before .before .before .args .block .0)
 state c = says _ _ (put c) .1
@@ -42,6 +43,6 @@ returns-2 c = ap (result 0 0) (put (c .before .before .before .before .before)) 
 pub put-retired-spec : {M : Type 1} → statement M
 put-retired-spec =
     tie.close
-    (tie.spec (λ c κs. search needs) (λ c κs. search needs) (λ c κs. search needs) sweeps-now-requires
+    (tie.spec (λ c κs. search needs) (λ c κs. search needs) (λ c κs. search needs) (λ c κs. search needs) sweeps-now-requires
     (λ c κs. says _ _ (put (c .before .before .before .before .before .before)) .0) (λ c. search needs) returns
     (λ c. search needs) returns-2)

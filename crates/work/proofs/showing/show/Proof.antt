@@ -11,7 +11,8 @@ use Rattle.work.proofs.showing.show.Tie as tie
 returns : tie.Need-returns
 returns c =
     c .before .before .put-block .ensures
-    ∙ ap (λ (x : BlockRow). words (withBlock (stateOf (c .before .before .before .before .before .before .before .before .before .before .before .args .table .now)) (c .before .before .before .before .before .before .before .before .before .before .before .args .block .0) x)) (shown-made _ _ (c .before .before .before .before .before .before .before .before .block-at .ensures) (c .before .before .before .before .before .before .if1 .taken))
+    ∙ ap (λ (x : BlockRow). words (withBlock (stateOf (c .before .before .before .before .before .before .before .before .before .before .args .table .now)) (c .before .before .before .before .before .before .before .before .before .before .args .block .0) x))
+    (shown-made _ _ (c .before .before .before .before .before .before .before .block-at .ensures) _ (c .before .before .before .before .before .if1 .taken) (c .before .before .before .shown .ensures))
 
 returns-2 : tie.Need-returns-2
 returns-2 c =
@@ -21,4 +22,5 @@ returns-2 c =
 pub show-spec : {M : Type 1} → statement M
 show-spec =
     tie.close
-    (tie.spec (λ c κs. search needs) (λ c κs. search needs) (λ c. search needs) returns (λ c. search needs) returns-2)
+    (tie.spec (λ c κs. search needs) (λ c κs. search needs) (λ c κs. search needs) (λ c. search needs) returns (λ c. search needs)
+    returns-2)
