@@ -1,12 +1,15 @@
 -- Laws of loops that go along a list. Assumes nothing.
 use Prim.Native.Nat.{ℕ, zero, suc, _+_, _≤_, _<_}
 use mathlib.Core.Path.{_≡_, refl, ap}
+use mathlib.Core.Bool.{Bool, _&&_}
 use mathlib.Core.List.{List, [], _∷_, map}
 use native.Mathlib.Nat.{le-of-suc-le-suc}
 use native.Mathlib.Numerals.{add-one}
 use native.Mathlib.Omega.{arith}
 use lib.ListN.{length, getD, set, drop, drop-of-length-le}
 use lib.Seq.{drop-cons}
+use Rattle.table.specs.Lists.{all}
+use Rattle.table.proofs.Tests.{and-assoc, and-true}
 
 -- what is left of the list at i begins with the next element, and is empty past the end
 module _ {A : Type 0} (xs : List A) (i : ℕ) where
@@ -15,6 +18,14 @@ module _ {A : Type 0} (xs : List A) (i : ℕ) where
 
   pub ended : length xs ≤ i → drop i xs ≡ []
   ended h = drop-of-length-le xs h
+
+-- a loop that tests the elements one by one: ok says that the first i pass, and those that are left decide
+module _ {A : Type 0} (f : A → Bool) (xs : List A) (i : ℕ) (ok : Bool) where
+  pub all-step : (d : A) (r : Bool) → i < length xs → f (getD xs i d) ≡ r → ok && all f (drop i xs) ≡ (ok && r) && all f (drop (i + 1) xs)
+  all-step d r h e = rw (next xs i d h, e) (and-assoc ok r (all f (drop (i + 1) xs)))
+
+  pub all-done : length xs ≤ i → ok && all f (drop i xs) ≡ ok
+  all-done h = rw (ended xs i h) (and-true ok)
 
 -- a loop that changes the elements one by one: g has been applied to the first i
 module _ {A : Type 0} (g : A → A) where

@@ -91,14 +91,13 @@ fn tasks_sound(table: &[u32]) -> bool
     ensures { λ r. ⌜ r ≡ soundTasks (stateOf (now (table .entry))) ⌝ }
 {
     let n = tasks(table);
+    let mut ok = true;
     let mut i = 0;
     while i < n {
-        if !task_sound(task_words(table, Task(i)), epoch(table), blocks(table)) {
-            return false;
-        }
+        ok = ok & task_sound(task_words(table, Task(i)), epoch(table), blocks(table));
         i += 1;
     }
-    true
+    ok
 }
 
 fn blocks_sound(table: &[u32]) -> bool
@@ -106,14 +105,13 @@ fn blocks_sound(table: &[u32]) -> bool
     ensures { λ r. ⌜ r ≡ soundBlocks (stateOf (now (table .entry))) ⌝ }
 {
     let n = blocks(table);
+    let mut ok = true;
     let mut i = 0;
     while i < n {
-        if !block_sound(block_at(table, Block(i + 1)), epoch(table), tasks(table)) {
-            return false;
-        }
+        ok = ok & block_sound(block_at(table, Block(i + 1)), epoch(table), tasks(table));
         i += 1;
     }
-    true
+    ok
 }
 
 fn slots_sound(table: &[u32]) -> bool
@@ -121,14 +119,13 @@ fn slots_sound(table: &[u32]) -> bool
     ensures { λ r. ⌜ r ≡ soundSlots (stateOf (now (table .entry))) ⌝ }
 {
     let n = slots(table);
+    let mut ok = true;
     let mut i = 0;
     while i < n {
-        if !slot_sound(table, Slot(i)) {
-            return false;
-        }
+        ok = ok & slot_sound(table, Slot(i));
         i += 1;
     }
-    true
+    ok
 }
 
 // The public test: any slice at all, empty, cut, too long, of any words.

@@ -1,18 +1,17 @@
--- `table::soundness::blocks_sound` meets its contract: the blocks from i on decide. Assumes nothing.
+-- `table::soundness::blocks_sound` meets its contract: ok, and the blocks from i on, decide. Assumes nothing.
 use Prim.Native.Nat.{ℕ, _≤_, _-_}
 use mathlib.Core.Path.{_≡_, sym, _∙_, refl}
-use mathlib.Core.Bool.{Bool}
+use mathlib.Core.Bool.{Bool, _&&_}
 use mathlib.Core.List.{List}
 use native.Mathlib.Omega.{arith}
-use lib.ListN.{length, getD, drop}
-use borrow.Author.Tests.{not-true, not-false}
+use lib.ListN.{length, drop}
 use Rattle.table.specs.Lists.{all}
 use Rattle.table.specs.State.{BlockRow, freeBlock}
 use Rattle.table.specs.Soundness.{soundBlock, soundBlocks}
 use Rattle.table.specs.Words.{stateOf}
 use Rattle.table.proofs.Tests.{ap₃}
 use Rattle.table.proofs.ByPlace.{from-next}
-use Rattle.table.proofs.Along.{next, ended}
+use Rattle.table.proofs.Along.{all-step, all-done}
 use borrow.Author.Needs.{needs}
 use Rattle.table.proofs.soundness.blocks_sound.Statement.{statement}
 use Rattle.table.proofs.soundness.blocks_sound.Tie as tie
@@ -22,39 +21,26 @@ abbrev test : List ℕ → BlockRow → Bool
 test t = soundBlock (stateOf t .epoch) (length (stateOf t .tasks))
 
 abbrev Inv-loop : tie.InvT-loop
-Inv-loop table n i₀ i = (i ≤ n) × (soundBlocks (stateOf table) ≡ all (test table) (drop i (stateOf table .blocks)))
+Inv-loop table n ok₀ i₀ ok i = (i ≤ n) × (soundBlocks (stateOf table) ≡ ok && all (test table) (drop i (stateOf table .blocks)))
 
 abbrev μ-loop : tie.MeasureT-loop
-μ-loop table n i₀ i = n - i
+μ-loop table n ok₀ i₀ ok i = n - i
 
 loop-holds : tie.Need-loop-holds Inv-loop μ-loop
 unfolding soundBlocks
 loop-holds c = (search needs, refl)
 
-add-t6 : tie.Need-add-t6 Inv-loop μ-loop
-add-t6 c = omega (arith, c .before .before .blocks2 .ok)
-
--- what a turn's test says
-said : (c : tie.After-block-sound Inv-loop μ-loop) → test (c .before .before .before .before .before .before .before .before .args .table .now) (getD (stateOf (c .before .before .before .before .before .before .before .before .args .table .now) .blocks) (c .before .before .before .before .before .loop .i) freeBlock) ≡ c .block-sound .result
-said c =
-    sym (c .block-sound .ensures
-    ∙ ap₃ soundBlock (c .before .before .epoch .ensures) (c .before .tasks .ensures) (c .before .before .before .block-at .ensures ∙ from-next (stateOf (c .before .before .before .before .before .before .before .before .args .table .now) .blocks) (c .before .before .before .before .before .loop .i) freeBlock))
-
-returns : tie.Need-returns Inv-loop μ-loop
-returns c = rw (c .before .before .before .before .before .before .loop .inv .1, next (stateOf (c .before .before .before .before .before .before .before .before .before .args .table .now) .blocks) (c .before .before .before .before .before .before .loop .i) freeBlock (omega arith), said (c .before) ∙ not-true (c .before .block-sound .result) (c .if1 .taken))
-
-add-i : tie.Need-add-i Inv-loop μ-loop
-add-i c = omega (arith, c .before .before .before .before .before .before .before .blocks2 .ok)
-
 loop-again : tie.Need-loop-again Inv-loop μ-loop
 loop-again c =
-    (omega arith, rw (c .before .before .before .before .before .before .loop .inv .1, next (stateOf (c .before .before .before .before .before .before .before .before .before .args .table .now) .blocks) (c .before .before .before .before .before .before .loop .i) freeBlock (omega arith), said (c .before) ∙ not-false (c .before .block-sound .result) (c .if1 .left)))
-
-returns-2 : tie.Need-returns-2 Inv-loop μ-loop
-returns-2 c = rw (c .before .loop .inv .1, ended (stateOf (c .before .before .before .before .args .table .now) .blocks) (c .before .loop .i) (omega arith))
+    let bs = stateOf (c .before .before .before .before .before .before .before .before .args .table .now) .blocks in
+    let row = c .before .before .before .block-at .ensures ∙ from-next bs (c .before .before .before .before .before .loop .i) freeBlock in
+    let said = c .block-sound .ensures ∙ ap₃ soundBlock (c .before .before .epoch .ensures) (c .before .tasks .ensures) row in
+    (omega arith, c .before .before .before .before .before .loop .inv .1 ∙ all-step (test (c .before .before .before .before .before .before .before .before .args .table .now)) bs (c .before .before .before .before .before .loop .i) (c .before .before .before .before .before .loop .ok) freeBlock _ (omega arith) (sym said))
 
 pub blocks-sound-spec : {M : Type 1} → statement M
 blocks-sound-spec =
     tie.close
-    (tie.spec Inv-loop μ-loop (λ c κs. search needs) loop-holds add-t6 (λ c κs. search needs) (λ c κs. search needs)
-    (λ c κs. search needs) (λ c κs. search needs) returns add-i (λ c. search needs) loop-again returns-2)
+    (tie.spec Inv-loop μ-loop (λ c κs. search needs) loop-holds (λ c. omega (arith, c .before .before .blocks2 .ok))
+    (λ c κs. search needs) (λ c κs. search needs) (λ c κs. search needs) (λ c κs. search needs)
+    (λ c. omega (arith, c .before .before .before .before .before .before .blocks2 .ok)) (λ c. search needs) loop-again
+    (λ c. sym (c .before .loop .inv .1 ∙ all-done (test (c .before .before .before .before .args .table .now)) (stateOf (c .before .before .before .before .args .table .now) .blocks) (c .before .loop .i) _ (omega arith))))
