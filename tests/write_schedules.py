@@ -1,31 +1,33 @@
 #!/usr/bin/env python3
-"""write_schedules.py: writes schedules/NAME and what has to be printed for it, schedules/NAME.txt, for each example of tests/examples.txt.
-
-The expected lines come from tests/model.py; an example's own '-> KIND VALUE' has to agree with them."""
+"""write_schedules.py: writes schedules/NAME and what has to be printed for it, schedules/NAME.txt, for each example of tests/examples.txt."""
 import os
 import struct
 import sys
 
-sys.dont_write_bytecode = True
-import model  # noqa: E402
-
 HERE = os.path.dirname(os.path.abspath(__file__))
 SCHEDULES = os.path.join(os.path.dirname(HERE), 'schedules')
-TAG_OF = {name: tag for tag, (name, _) in model.TAGS.items()}
+MOST_BYTES = 65536
+FAULTS = (21, 22, 23)
+
+# Each step's tag, and how many numbers its body has.
+STEPS = {
+    'open': (1, 5), 'start': (2, 1), 'look': (3, 2), 'settle': (4, 1), 'make': (5, 1),
+    'swap': (6, 4), 'retire': (7, 2), 'sweep': (8, 1), 'end': (9, 1), 'tally': (10, 1),
+}
 
 
 def field(words):
     """The bytes of a step by its name and numbers, or of a line of bytes."""
     if words[0] == 'bytes':
         return bytes(int(word, 16) for word in words[1:])
-    tag, numbers = TAG_OF[words[0]], [int(word) for word in words[1:]]
-    if len(numbers) != model.TAGS[tag][1]:
-        raise ValueError('%s has %d numbers' % (words[0], model.TAGS[tag][1]))
-    return struct.pack('>BH%dI' % len(numbers), tag, 4 * len(numbers), *numbers)
+    tag, count = STEPS[words[0]]
+    if len(words) != 1 + count:
+        raise ValueError('%s has %d numbers' % (words[0], count))
+    return struct.pack('>BH%dI' % count, tag, 4 * count, *map(int, words[1:]))
 
 
 def repeated(words):
-    """The words of each field that a line stands for."""
+    """The words of each field, with its answer, that a line stands for."""
     if words[1:2] == ['times']:
         return [words[2:]] * int(words[0])
     if words[0] == 'from':
@@ -33,15 +35,17 @@ def repeated(words):
     return [words]
 
 
-def parse(line):
-    """The fields of a line, each with the kind and value that it is held to, or None."""
-    step, _, held_to = line.partition('->')
-    answer = tuple(int(word) for word in held_to.split()) or None
-    return [(field(words), answer) for words in repeated(step.split())]
+def parse(words):
+    """The bytes of a field, and the kind and value that have to be answered, or None."""
+    if '->' not in words:
+        return field(words), None
+    cut = words.index('->')
+    kind, value = map(int, words[cut + 1:])
+    return field(words[:cut]), (kind, value)
 
 
 def read_examples():
-    """NAME: the list of (bytes of a field, what it is held to)."""
+    """NAME: the list of (bytes of a field, its answer)."""
     examples, name = {}, None
     for line in open(os.path.join(HERE, 'examples.txt')):
         line = line.split('#')[0].rstrip()
@@ -51,25 +55,30 @@ def read_examples():
                 raise ValueError('two examples are called ' + name)
             examples[name] = []
         elif line:
-            examples[name] += parse(line)
+            examples[name] += map(parse, repeated(line.split()))
     return examples
 
 
-def agrees(name, fields, data):
-    """The model's lines are what the example's author wrote beside its fields."""
-    for (step, _, kind, value), (_, answer) in zip(model.lines(data), fields):
-        if answer not in (None, (kind, value)):
-            raise ValueError('%s: step %d is held to %s, and the model says %s' % (name, step, answer, (kind, value)))
+def lines(name, fields):
+    """The lines that have to be printed after the header."""
+    if sum(len(data) for data, _ in fields) > MOST_BYTES:
+        return ['0 0 24 0']
+    out = []
+    for step, (data, answer) in enumerate(fields, 1):
+        if answer is None:
+            raise ValueError('%s: step %d has no answer' % (name, step))
+        out.append('%d %d %d %d' % (step, data[0], *answer))
+        if answer[0] in FAULTS:
+            break
+    return out
 
 
 def written():
     """Each file under schedules/ with its content."""
     files = {}
     for name, fields in read_examples().items():
-        data = b''.join(part for part, _ in fields)
-        agrees(name, fields, data)
-        files[name] = data
-        files[name + '.txt'] = model.printed(data).encode()
+        files[name] = b''.join(data for data, _ in fields)
+        files[name + '.txt'] = ''.join(line + '\n' for line in ['step tag kind value'] + lines(name, fields)).encode()
     return files
 
 
