@@ -20,6 +20,9 @@ const SAMPLES: usize = 301;
 /// What a sample should last, in nanoseconds.
 const SAMPLE_TIME: u64 = 100_000;
 
+/// Runs of a whole schedule; the median counts.
+const SCHEDULE_RUNS: usize = 31;
+
 /// The epoch of the measured tables.
 const EPOCH: u32 = 100;
 
@@ -265,10 +268,41 @@ fn report(title: &str, sizes: Sizes, tables: u64) {
     }
 }
 
+/// Nanoseconds a field takes when a schedule is carried out, with or without a walk of the table before each field.
+fn schedule_time(schedule: &[u8], fields: usize, walk: u32) -> f64 {
+    #[link(name = "timing", kind = "static")]
+    unsafe extern "C" {
+        fn kavdrell_timing(schedule: *const u8, bytes: usize, walk: u32) -> u64;
+    }
+    let run = || {
+        let begun = Instant::now();
+        let sum = unsafe { kavdrell_timing(black_box(schedule.as_ptr()), schedule.len(), walk) };
+        let time = begun.elapsed().as_nanos() as f64;
+        assert!(sum as usize >= fields, "the schedule was not carried out whole");
+        time / fields as f64
+    };
+    median((0..SCHEDULE_RUNS).map(|_| run()).collect())
+}
+
+/// Prints what a walk before each field costs two of the example schedules.
+fn report_schedules() {
+    println!("\n### Schedules of thousands of steps, on the largest table\n");
+    println!("| schedule | fields | without the walk, ns a field | with it, ns a field | ratio |");
+    println!("|---|---:|---:|---:|---:|");
+    for name in ["largest_table", "bytes_65536"] {
+        let schedule = std::fs::read(format!("schedules/{name}")).expect("an example schedule");
+        let printed = std::fs::read_to_string(format!("schedules/{name}.txt")).expect("what it prints");
+        let fields = printed.lines().count() - 1;
+        let [without, with] = [0, 1].map(|walk| schedule_time(&schedule, fields, walk));
+        println!("| `schedules/{name}` | {fields} | {without:.1} | {with:.1} | {:.2} |", with / without);
+    }
+}
+
 fn main() {
     let small = Sizes { tasks: 2, blocks: 4, slots: 1, makes_per_epoch: 2, retirements_per_sweep: 1024 };
     let largest = Sizes { tasks: 32, blocks: 1024, slots: 256, ..small };
     report("A small table (2 tasks, 4 blocks, 1 slot), the same for each call", small, 1);
     report("The largest table (32 tasks, 1,024 blocks, 256 slots), the same for each call", largest, 1);
     report("The largest table, another of 32 for each call", largest, 32);
+    report_schedules();
 }
