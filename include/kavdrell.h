@@ -1,4 +1,4 @@
-/* Kavdrell: ten steps of interval-based reclamation over one lent table of 32-bit words.
+/* Kavdrell: ten steps of interval-based reclamation over one lent table of 32-bit words, and zone records.
  *
  * A table is lent to each call as a pointer and its length in words; the call keeps neither. Any input is answered: a null pointer
  * with length 0, a damaged table and any number get a refusal. A refusal leaves every word of the table as it was.
@@ -85,6 +85,34 @@ uint64_t kavdrell_end(uint32_t *table, size_t words, uint32_t task);
 
 /* Changes nothing. Value: how many blocks are in this state (enum kavdrell_state). */
 uint64_t kavdrell_tally(uint32_t *table, size_t words, uint32_t state);
+
+/* Zone records: eight bytes each, the offset in minutes, signed, two bytes most significant first, then six bytes of name. */
+
+/* What a zone function that reads answers: kind 0 and the minutes, or a refusal's kind and 0 minutes. */
+struct kavdrell_zone_minutes {
+    uint32_t kind;
+    int32_t minutes;
+};
+
+enum kavdrell_zone_kind {
+    KAVDRELL_ZONE_OUT_OF_RANGE = 30,    /* the offset isn't within -900 to 900 */
+    KAVDRELL_ZONE_NO_RECORD = 31,       /* the hour isn't in the table, the block is 0, or the store is too short */
+    KAVDRELL_ZONE_NOT_A_ZONE = 32,      /* not five characters, not a sign and four digits, minutes above 59, or -0000 */
+    KAVDRELL_ZONE_NOT_FIVE_BYTES = 33   /* the buffer isn't five bytes long */
+};
+
+/* The minutes of a whole hour, -15 to 15, in the fixed table of 31 records: 31, then 30. */
+struct kavdrell_zone_minutes kavdrell_zone_hour(const uint8_t *table, size_t bytes, int32_t hour);
+
+/* The minutes of block n's record, at byte 8 * (n - 1) of the blocks' room: 31, then 30. It doesn't see that the caller holds the block. */
+struct kavdrell_zone_minutes kavdrell_zone_block(const uint8_t *room, size_t bytes, uint32_t block);
+
+/* Writes the five characters of the Fortran ZONE argument, a sign, two digits of hours and two of minutes. Answers the kind: 30, then 33;
+ * a refusal writes nothing. */
+uint32_t kavdrell_zone_write(int32_t minutes, uint8_t *buffer, size_t bytes);
+
+/* Reads the minutes of such characters: 32, then 30. */
+struct kavdrell_zone_minutes kavdrell_zone_read(const uint8_t *characters, size_t bytes);
 
 #ifdef __cplusplus
 }

@@ -1,14 +1,19 @@
 // The ten steps for C: the table as a pointer and its length in words, then the numbers in a schedule's order. Each answers
-// kind × 2^32 + value.
+// kind × 2^32 + value. And zone records: the minutes of one, and the characters of the Fortran ZONE argument.
 use numbers::Block;
 use numbers::Slot;
 use numbers::Task;
 use work::answers::Answer;
+use zone_text::ZoneMinutes;
+use zones::requests::Request;
 ghost use mathlib.Core.Path.{_≡_};
 ghost use Prim.Native.Nat.{_+_, _*_, _<_};
 ghost use Rattle.rules.specs.Steps.{start, look, settle, make, swap, retire, sweep, end, tally};
 ghost use Rattle.rules.specs.OnTable.{onTable, openTable};
 ghost use Rattle.work.specs.Answers.{kindOf, valueOf};
+ghost use Rattle.zone_text.specs.Zone.{written, zoneWrite, zoneRead};
+ghost use Rattle.zones.specs.Requests.{lent, hourPart, blockPart};
+ghost use Rattle.zones.specs.Records.{minutesOf};
 ghost use Rattle.exports.specs.Packed.{unpacked};
 
 // One more than the largest value.
@@ -88,4 +93,34 @@ pub extern "C" fn kavdrell_tally(table: &mut [u32], state: u32) -> u64
     ensures { λ r. ⌜ unpacked r (now (table .exit)) ≡ onTable (now (table .entry)) (λ s. tally s state) ⌝ }
 {
     packed(reclaim::tally(table, state))
+}
+
+#[no_mangle]
+pub extern "C" fn kavdrell_zone_write(minutes: i32, buffer: &mut [u8]) -> u32
+    ensures { λ r. ⌜ written r (now (buffer .exit)) ≡ zoneWrite minutes (now (buffer .entry)) ⌝ }
+{
+    zone_text::write_zone(minutes, buffer)
+}
+
+#[no_mangle]
+pub extern "C" fn kavdrell_zone_read(characters: &[u8]) -> ZoneMinutes
+    ensures { λ r. ⌜ r ≡ zoneRead (now (characters .entry)) ⌝ }
+{
+    zone_text::read_zone(characters)
+}
+
+// The minutes of a whole hour's record in the lent fixed table.
+#[no_mangle]
+pub extern "C" fn kavdrell_zone_hour(table: &[u8], hour: i32) -> ZoneMinutes
+    ensures { λ r. ⌜ r ≡ minutesOf (hourPart (lent (table .entry)) hour .bytes) ⌝ }
+{
+    zones::requests::minutes(table, table, Request::Hour(hour))
+}
+
+// The minutes of a block's record in the lent room.
+#[no_mangle]
+pub extern "C" fn kavdrell_zone_block(room: &[u8], block: u32) -> ZoneMinutes
+    ensures { λ r. ⌜ r ≡ minutesOf (blockPart (lent (room .entry)) block .bytes) ⌝ }
+{
+    zones::requests::minutes(room, room, Request::Block(Block(block)))
 }

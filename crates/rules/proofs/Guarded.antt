@@ -152,7 +152,7 @@ pub record Held (β k b : ℕ) (s : State) : Type 0 where
   pub sound : Sound s
   pub guarded : Guarded β (taskOf s k) (blockOf s b)
 
-run-held : (β k b : ℕ) (s : State) (cs : List Call) → neverEnds k s cs ≡ true → Held β k b s → Held β k b (after s cs)
+pub run-held : (β k b : ℕ) (s : State) (cs : List Call) → neverEnds k s cs ≡ true → Held β k b s → Held β k b (after s cs)
 run-held β k b s [] e h = h
 run-held β k b s (c ∷ cs) e h = let t = two (not (endsTask k s c)) _ e in run-held β k b (step s c .after) cs (t .1)
     (step-keeps (Held β k b) s c (λ a z ch o. record {
@@ -161,7 +161,7 @@ run-held β k b s (c ∷ cs) e h = let t = two (not (endsTask k s c)) _ e in run
     }) h)
 
 -- a settle of kind 0 guards what it hands out: upper was the epoch already
-settle-guards : (s : State) (k : ℕ) → Right s → settle s k .kind ≡ 0 → settle s k .value ≢ 0
+pub settle-guards : (s : State) (k : ℕ) → Right s → settle s k .kind ≡ 0 → settle s k .value ≢ 0
     → Guarded (blockOf s (settle s k .value) .birth) (taskOf (settle s k .after) k) (blockOf (settle s k .after) (settle s k .value))
 unfolding settle Looking
 settle-guards s k h = checked-cases

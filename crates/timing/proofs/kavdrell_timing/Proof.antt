@@ -35,8 +35,6 @@ loop-less c = let w = whole (c .before .before .before .before .before .before) 
 loop-again : tie.Need-loop-again Inv-loop μ-loop
 loop-again c = let w = whole (c .before .before .before .before .before .before) in (search needs, w .within, omega (arith, w .after, c .before .before .before .before .before .before .before .before .before .loop .inv .2, c .before .before .before .walked .ensures))
 
-
-
 pub kavdrell-timing-spec : {M : Type 1} → statement M
 kavdrell-timing-spec =
     tie.close

@@ -1,0 +1,4 @@
+pub mod Signs
+pub mod Writing
+pub mod Reading
+pub mod RoundTrip

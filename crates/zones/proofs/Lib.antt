@@ -1,0 +1,4 @@
+pub mod Offsets
+pub mod Parts
+pub mod Hours
+pub mod SameRecord
