@@ -22,7 +22,7 @@ use Rattle.rules.proofs.Kept.{step-sound, opened-sound}
 use Rattle.reclaim.specs.Promises.{PublicCall}
 use Rattle.reclaim.specs.Promises.PublicCall.{opens, calls}
 use Rattle.reclaim.proofs.Tables.{on-sound, open-length, open-bad-size, open-done}
-use Rattle.runner.specs.Running.{held, Carried, Ready, bufferLength, lent, carried}
+use Rattle.runner.specs.Running.{held, Carried, Ready, bufferLength, carried}
 use Rattle.runner.proofs.Carrying.{put-back, no-table}
 
 -- two states of the same sizes have as many words
