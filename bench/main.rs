@@ -1,5 +1,5 @@
-//! Measures each step of the archive against the same rules in C and in Rust, on a small and on the largest table, and prints a table.
-//! Before a case is measured, the three answers and all words left are compared with the tests' model of the rules.
+//! Measures each step of the archive against the same rules in C and in the tests' Rust model, on a small and on the largest table, and
+//! prints a table. Before a case is measured, the archive's and the C's answers and all words left are compared with the model's.
 
 #[path = "../tests/compare/model.rs"]
 #[allow(dead_code, reason = "the tests use all of the model, the measuring a part")]
@@ -7,9 +7,8 @@ mod model;
 #[path = "../tests/compare/random.rs"]
 #[allow(dead_code, reason = "the tests use all of the random numbers, the measuring a part")]
 mod random;
-mod rules;
 
-use model::{Block, Call, Interval, Phase, Sizes, State, Task};
+use model::{Answer, Block, Call, Interval, Phase, Sizes, State, Task};
 use random::Random;
 use std::hint::black_box;
 use std::time::Instant;
@@ -92,19 +91,15 @@ linked!(
     rules_tally
 );
 
+/// An answer as the C functions pack it.
+fn packed(answer: Answer) -> u64 {
+    u64::from(answer.kind) << 32 | u64::from(answer.value)
+}
+
+/// The tests' model: it reads the words into a state of its own and lays the state out again.
+#[inline(never)]
 fn in_rust(t: &mut [u32], call: Call) -> u64 {
-    match call {
-        Call::Open(s) => rules::open(t, s.tasks, s.blocks, s.slots, s.makes_per_epoch, s.retirements_per_sweep),
-        Call::Start { task } => rules::start(t, task),
-        Call::Look { task, slot } => rules::look(t, task, slot),
-        Call::Settle { task } => rules::settle(t, task),
-        Call::Make { task } => rules::make(t, task),
-        Call::Swap { task, slot, old, new } => rules::swap(t, task, slot, old, new),
-        Call::Retire { task, block } => rules::retire(t, task, block),
-        Call::Sweep { task } => rules::sweep(t, task),
-        Call::End { task } => rules::end(t, task),
-        Call::Tally { state } => rules::tally(t, state),
-    }
+    packed(model::call(t, call))
 }
 
 /// A call that does nothing: what it takes is taken off the others.
@@ -198,33 +193,32 @@ fn cases(sizes: Sizes, tables: u64) -> Vec<Case> {
     cases
 }
 
-/// Each implementation has to answer as the model does, and leave the same words.
+/// The archive and the C have to answer as the model does, and leave the same words.
 fn check(case: &Case) {
     for words in &case.tables {
         let mut due = words.clone();
-        let answer = model::call(&mut due, case.call);
-        for (name, implementation) in ["the archive", "rules.c", "rules.rs"].iter().zip(&IMPLEMENTATIONS[1..]) {
+        let answer = in_rust(&mut due, case.call);
+        for (name, implementation) in ["the archive", "rules.c"].iter().zip(&IMPLEMENTATIONS[1..]) {
             let mut left = words.clone();
-            let packed = implementation(&mut left, case.call);
-            assert!(
-                packed == u64::from(answer.kind) << 32 | u64::from(answer.value),
-                "{name}: {} answers {packed:#x}",
-                case.name
-            );
+            let given = implementation(&mut left, case.call);
+            assert!(given == answer, "{name}: {} answers {given:#x}", case.name);
             assert!(left == due, "{name}: {} leaves other words", case.name);
         }
     }
 }
 
-/// Nanoseconds that a call takes, on average over so many rounds of the tables, each copied to the lent words before its call.
+/// Nanoseconds that a call takes, on average over so many rounds of the tables, each copied to the lent words before its call. A round
+/// before the timed ones brings the caches to where this implementation leaves them.
 fn sample(implementation: Implementation, case: &Case, lent: &mut [u32], rounds: u64) -> f64 {
-    let begun = Instant::now();
-    for _ in 0..rounds {
+    let mut round = || {
         for words in &case.tables {
             lent.copy_from_slice(words);
             black_box(implementation(black_box(&mut *lent), black_box(case.call)));
         }
-    }
+    };
+    round();
+    let begun = Instant::now();
+    (0..rounds).for_each(|_| round());
     begun.elapsed().as_nanos() as f64 / (rounds * case.tables.len() as u64) as f64
 }
 
