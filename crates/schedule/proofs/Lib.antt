@@ -1,3 +1,6 @@
 -- Laws that belong to no one function.
 pub mod Faults
+pub mod Refusals
 pub mod Stands
+pub mod Stores
+pub mod Writes

@@ -1,4 +1,6 @@
 // The one-field reader of schedule files: what stands at a place of a schedule, and the numbers of a body.
+pub mod writing;
+
 ghost use mathlib.Core.Path.{_≡_};
 ghost use Prim.Native.Nat.{_+_, _*_, _<_};
 ghost use lib.ListN.{length, getD};
