@@ -9,7 +9,7 @@ use borrow.Author.Tests.{eq-eqb, ne-eqb, leb-true, leb-false, eqb-true, eqb-fals
 use Rattle.schedule.specs.declared.Numbers.{Numbers}
 use Rattle.schedule.specs.declared.Field.{Field}
 use Rattle.schedule.specs.declared.Field.the-variants.{Step, Fault, End}
-use Rattle.schedule.specs.Fields.{lengths, lengthOf, numbersOf, left, part, faultKind, tagged, fieldAt}
+use Rattle.schedule.specs.Fields.{lengths, lengthOf, number, numbersOf, left, part, faultKind, tagged, fieldAt}
 use Rattle.schedule.proofs.Faults.{by-test, kind-says}
 
 module _ (s : List ℕ) (at : ℕ) where
@@ -30,11 +30,14 @@ module _ (s : List ℕ) (at : ℕ) where
         let m : at + 3 + n - (at + 3) ≡ n = omega arith in
         of-kind (simp (e, m, eq-eqb kind 0 z))
 
--- a whole field has one of the ten tags and the numbers of its body; the next place is after the body, and within the schedule
+-- a whole field has one of the ten tags, the length of that tag and the numbers of its body; the next place is after the body, and within the
+-- schedule
 pub record Whole (s : List ℕ) (at tag : ℕ) (numbers : Numbers) (next : ℕ) : Type 0 where
   pub its-tag : tag ≡ getD s at 0
   pub low : 1 ≤ tag
   pub high : tag ≤ 10
+  pub known : lengthOf tag ≡ 0 → ⊥
+  pub said : number 2 s (at + 1) ≡ lengthOf tag
   pub its-numbers : numbers ≡ numbersOf (part s (at + 3) (lengthOf tag))
   pub after : next ≡ at + 3 + lengthOf tag
   pub within : next ≤ length s
@@ -70,7 +73,7 @@ module _ (s : List ℕ) (at : ℕ) where
       by-test (Stands s at) (eqb (left s at) 0) (λ none. omega (arith, eqb-true)) (λ some.
       by-test (Stands s at) (eqb kind 0) (λ passed.
       let z = eqb-true kind 0 passed in
-      record { its-tag = refl; low = above tag (says .known z); high = below tag (says .known z); its-numbers = refl; after = refl; within = says .inside z }) (λ fails.
+      record { its-tag = refl; low = above tag (says .known z); high = below tag (says .known z); known = says .known z; said = says .said z; its-numbers = refl; after = refl; within = says .inside z }) (λ fails.
       record { its-tag = refl; low = says .low (eqb-false kind 0 fails); high = says .high; within = omega (arith, eqb-false) }))
 
   -- what holds of whatever stands at a place

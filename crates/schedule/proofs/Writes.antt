@@ -2,12 +2,14 @@
 use Prim.Native.Nat.{ℕ, _+_, _*_, _≤_}
 use mathlib.Core.Path.{_≡_, refl, sym, ap, _∙_}
 use mathlib.Core.List.{List}
+use lib.Dec.{eqb}
 use lib.ListN.{length}
 use lib.Seq.{sets, sets-eq}
 use native.Mathlib.Omega.{arith}
-use borrow.Author.Tests.{eq-eqb, ne-eqb}
+use borrow.Author.Tests.{eqb-true, eqb-false, ne-eqb}
 use Rattle.schedule.specs.Fields.{lengthOf, left}
-use Rattle.schedule.specs.Writing.{fieldOf, sizeOf, writeKind, outcome, placed, fieldWrite}
+use Rattle.schedule.specs.Writing.{fieldOf, sizeOf, writeKind, Outcome, outcome, placed, fieldWrite}
+use Rattle.schedule.proofs.Faults.{by-test}
 use Rattle.schedule.proofs.Refusals.{fours, free}
 use Rattle.schedule.proofs.Stores.{length-field}
 
@@ -16,14 +18,27 @@ module _ (b : List ℕ) (at tag : ℕ) (ns : List ℕ) where
   unfolding fieldWrite
   refused {kind} e d = rw (← e) (simp (ne-eqb kind 0 d))
 
+  -- a case by what the checks give
+  pub by-kind : (Q : Outcome → Type 0) → (writeKind tag (length ns) (left b at) ≡ 0 → Q (outcome 0 (at + sizeOf tag) (placed b at (fieldOf tag ns))))
+      → ((writeKind tag (length ns) (left b at) ≡ 0 → ⊥) → Q (outcome (writeKind tag (length ns) (left b at)) 0 b)) → Q (fieldWrite b at tag ns)
+  unfolding fieldWrite
+  by-kind Q zero other =
+      let kind = writeKind tag (length ns) (left b at) in
+      by-test Q (eqb kind 0) (λ e. zero (eqb-true kind 0 e)) (λ e. other (eqb-false kind 0 e))
+
+  pub its-kind : writeKind tag (length ns) (left b at) ≡ fieldWrite b at tag ns .kind
+  its-kind = by-kind (λ (o : Outcome). writeKind tag (length ns) (left b at) ≡ o .kind) (λ z. z) (λ _. refl)
+
   module _ (z : writeKind tag (length ns) (left b at) ≡ 0) where
     -- kind 0: the field is within the buffer, and its body has the tag's length
     pub inside : (at + sizeOf tag ≤ length b) × (4 * length ns ≡ lengthOf tag)
     inside = let f = free tag (length ns) (left b at) z in let w = fours tag .whole in (omega arith, omega arith)
 
-    size : length (fieldOf tag ns) ≡ sizeOf tag
-    size = length-field tag ns ∙ ap (λ (n : ℕ). 3 + n) (inside .1)
+    pub made : fieldWrite b at tag ns ≡ outcome 0 (at + sizeOf tag) (placed b at (fieldOf tag ns))
+    unfolding fieldWrite
+    made = rw z
 
     pub done : {value : ℕ} {l : List ℕ} → value ≡ at + sizeOf tag → l ≡ sets b at (fieldOf tag ns) → outcome 0 value l ≡ fieldWrite b at tag ns
-    unfolding fieldWrite
-    done v e = rw (z, v, e) (ap (outcome 0 (at + sizeOf tag)) (sets-eq (fieldOf tag ns) b at (omega (arith, inside .0, size))))
+    done v e =
+        rw (made, v, e)
+        (ap (outcome 0 (at + sizeOf tag)) (sets-eq (fieldOf tag ns) b at (omega (arith, inside .0, inside .1, length-field tag ns))))
