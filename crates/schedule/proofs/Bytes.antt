@@ -1,8 +1,8 @@
 -- Bytes and numbers: the bytes of a number say it, and a number says the bytes that it was read from; the same of a body. Assumes nothing.
 use Prim.Native.Nat.{ℕ, zero, suc, _+_, _*_, _^_, _/_, _%_, _≤_, _<_}
-use mathlib.Core.Path.{_≡_, refl, sym, ap, _∙_}
+use mathlib.Core.Path.{_≡_, refl, sym}
 use mathlib.Core.List.{List, [], _∷_, _++_, append-assoc}
-use native.Mathlib.Nat.{add-zero, zero-add, add-assoc, mul-zero, pow-suc}
+use native.Mathlib.Nat.{zero-add, add-assoc, pow-suc}
 use native.Mathlib.Omega.{arith}
 use lib.ListN.{length, getD, take, drop, length-drop}
 use lib.Seq.{getD-append-add, getD-at, getD-drop, take-suc, take-add, drop-drop}

@@ -1,19 +1,17 @@
 -- What is written reads back as the same step, every field that the reader accepts is what would be written for it, and bytes outside the field
 -- stay. Assumes nothing.
-use Prim.Native.Nat.{ℕ, _+_, _-_, _*_, _≤_, _<_}
+use Prim.Native.Nat.{ℕ, _+_, _-_, _*_, _≤_}
 use mathlib.Core.Path.{_≡_, refl, sym, ap, _∙_}
 use mathlib.Core.List.{List, [], _∷_, _++_, append-assoc}
 use native.Mathlib.Nat.{add-assoc}
 use native.Mathlib.Omega.{arith}
-use lib.Dec.{eqb}
-use lib.ListN.{length, getD, take, drop, length-append, length-take, length-drop, take-append-drop}
+use lib.ListN.{length, getD, take, drop, length-append, length-drop, take-append-drop}
 use lib.Seq.{getD-append-seam, take-at, drop-at, drop-append-add, length-take-le, take-all, take-add, drop-cons}
 use Rattle.schedule.specs.declared.Numbers.{Numbers}
 use Rattle.schedule.specs.declared.Field.the-variants.{Step}
 use Rattle.schedule.specs.Fields.{lengthOf, number, numbersOf, left, part, faultKind, fieldAt}
-use Rattle.schedule.specs.Writing.{bytesOf, bodyOf, fieldOf, countOf, sizeOf, listOf, fiveOf, writeKind, Outcome, outcome, placed, fieldWrite}
-use Rattle.schedule.proofs.Bytes.{Below, number-behind, number-bytes, number-body, part-add, below-part, readFrom, take-read, bytes-number, body-numbers}
-use Rattle.schedule.proofs.Faults.{by-test}
+use Rattle.schedule.specs.Writing.{bytesOf, bodyOf, fieldOf, countOf, sizeOf, listOf, fiveOf, Outcome, outcome, placed, fieldWrite}
+use Rattle.schedule.proofs.Bytes.{Below, number-behind, number-bytes, number-body, part-add, below-part, take-read, bytes-number, body-numbers}
 use Rattle.schedule.proofs.Faults as faults
 use Rattle.schedule.proofs.Refusals.{fours, free, none}
 use Rattle.schedule.proofs.Stands.{stands, whole, Whole}
@@ -62,10 +60,7 @@ module _ (p : List ℕ) (tag : ℕ) (ns q : List ℕ) {at : ℕ} (place : length
       let read : Step (getD t at 0) (fiveOf ns) (at + 3 + n) ≡ fieldAt t at = whole t at (omega arith) asked found refl (rw (m, body-there) (five-said below)) in
       sym read ∙ rw (tag-there, add-assoc at 3 n)
 
--- READ AND WRITTEN
-
--- WRITTEN AND READ. What a write that is not refused leaves reads back as that step: its tag, its numbers, and the write's value as the place after
--- it.
+-- WRITTEN AND READ. What an accepted write leaves reads back as the same step: its tag, its numbers, and the write's value as the place after it;
 pub written-reads-back : (b : List ℕ) (at tag : ℕ) (ns : List ℕ) → Below 4294967296 ns → fieldWrite b at tag ns .kind ≡ 0
     → fieldAt (fieldWrite b at tag ns .buffer) at ≡ Step tag (fiveOf ns) (fieldWrite b at tag ns .value)
 written-reads-back b at tag ns below accepted =
@@ -74,9 +69,12 @@ written-reads-back b at tag ns below accepted =
     rw (made b at tag ns z)
     (read-there (take at b) tag ns _ (length-take-le at b (omega arith)) (i .1) below (free tag (length ns) (left b at) z .known))
 
--- the numbers that are read back are all that were written
-pub list-back : (tag : ℕ) (ns : List ℕ) → length ns ≡ countOf tag → listOf tag (fiveOf ns) ≡ ns
-list-back tag ns e = let k = fours tag .most in rw (← e) (five-back ns (omega arith))
+-- and these five numbers are all that were written
+pub none-lost : (b : List ℕ) (at tag : ℕ) (ns : List ℕ) → fieldWrite b at tag ns .kind ≡ 0 → listOf tag (fiveOf ns) ≡ ns
+none-lost b at tag ns accepted =
+    let f = free tag (length ns) (left b at) (its-kind b at tag ns ∙ accepted) in
+    let k = fours tag .most in
+    rw (← f .counted) (five-back ns (omega arith))
   where
     five-back : (xs : List ℕ) → length xs ≤ 5 → take (length xs) (getD xs 0 0 ∷ getD xs 1 0 ∷ getD xs 2 0 ∷ getD xs 3 0 ∷ getD xs 4 0 ∷ []) ≡ xs
     five-back [] h = refl

@@ -2,7 +2,7 @@
 use Prim.Native.Nat.{ℕ, zero, suc, _+_, _-_, _*_, _≤_, _<_, _/_, _%_}
 use mathlib.Core.Path.{_≡_, refl, sym, ap, _∙_}
 use mathlib.Core.List.{List, [], _∷_, _++_}
-use native.Mathlib.Nat.{add-zero, add-suc, suc-add, mul-zero, mul-suc, add-assoc}
+use native.Mathlib.Nat.{add-zero, add-suc, suc-add}
 use native.Mathlib.Numerals.{add-one}
 use native.Mathlib.Omega.{arith}
 use lib.ListN.{length, getD, set, drop, length-append, drop-of-length-le}
@@ -19,11 +19,11 @@ length-bytes (suc n) x = rw (length-append, length-bytes n (x / 256)) (add-one n
 pub length-body : (ns : List ℕ) → length (bodyOf ns) ≡ 4 * length ns
 unfolding bodyOf
 length-body [] = refl
-length-body (x ∷ ns) = rw (length-append, length-bytes 4 x, length-body ns) (omega arith)
+length-body (x ∷ ns) = rw (length-append, length-bytes, length-body ns) (omega arith)
 
 pub length-field : (tag : ℕ) (ns : List ℕ) → length (fieldOf tag ns) ≡ 3 + 4 * length ns
 unfolding fieldOf
-length-field tag ns = rw (length-append, length-bytes 2 (lengthOf tag), length-body ns) (omega arith)
+length-field tag ns = rw (length-append, length-bytes, length-body) (omega arith)
 
 -- stores one after another
 sets-append : (xs ys l : List ℕ) (i : ℕ) → sets l i (xs ++ ys) ≡ sets (sets l i xs) (i + length xs) ys
