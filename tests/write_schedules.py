@@ -1,5 +1,7 @@
 #!/usr/bin/env python3
-"""write_schedules.py: writes schedules/NAME and what has to be printed for it, schedules/NAME.txt, for each example of tests/examples.txt."""
+"""write_schedules.py: for each example of tests/examples.txt writes schedules/NAME, as text schedules/NAME.typed, and what has to be printed
+for it, schedules/NAME.txt."""
+import itertools
 import os
 import struct
 import sys
@@ -36,16 +38,16 @@ def repeated(words):
 
 
 def parse(words):
-    """The bytes of a field, and the kind and value that have to be answered, or None."""
+    """The words of a field, and the kind and value that have to be answered, or None."""
     if '->' not in words:
-        return field(words), None
+        return words, None
     cut = words.index('->')
     kind, value = map(int, words[cut + 1:])
-    return field(words[:cut]), (kind, value)
+    return words[:cut], (kind, value)
 
 
 def read_examples():
-    """NAME: the list of (bytes of a field, its answer)."""
+    """NAME: the list of (words of a field, its answer)."""
     examples, name = {}, None
     for line in open(os.path.join(HERE, 'examples.txt')):
         line = line.split('#')[0].rstrip()
@@ -59,15 +61,33 @@ def read_examples():
     return examples
 
 
-def lines(name, fields):
-    """The lines that have to be printed after the header."""
-    if sum(len(data) for data, _ in fields) > MOST_BYTES:
-        return ['0 0 24 0']
-    out = []
-    for step, (data, answer) in enumerate(fields, 1):
+def schedule(fields):
+    return b''.join(field(words) for words, _ in fields)
+
+
+def steps_before(fields):
+    """The fields before the first bytes that are no step's."""
+    return list(itertools.takewhile(lambda field: field[0][0] != 'bytes', fields))
+
+
+def typed(name, fields):
+    """The text of the steps. Bytes that are no step's can't be typed, nor is what follows them read."""
+    steps = steps_before(fields)
+    out = ['# %s: bin/write < %s.typed' % (name, name)] + [' '.join(words) for words, _ in steps]
+    if len(steps) < len(fields):
+        out.append('# The schedule goes on with bytes that are no step: ' + ' '.join(fields[len(steps)][0][1:]))
+    return out
+
+
+def printed(name, fields):
+    """What `steps` has to print."""
+    out = ['step tag kind value']
+    if len(schedule(fields)) > MOST_BYTES:
+        return out + ['0 0 24 0']
+    for step, (words, answer) in enumerate(fields, 1):
         if answer is None:
             raise ValueError('%s: step %d has no answer' % (name, step))
-        out.append('%d %d %d %d' % (step, data[0], *answer))
+        out.append('%d %d %d %d' % (step, field(words)[0], *answer))
         if answer[0] in FAULTS:
             break
     return out
@@ -77,8 +97,9 @@ def written():
     """Each file under schedules/ with its content."""
     files = {}
     for name, fields in read_examples().items():
-        files[name] = b''.join(data for data, _ in fields)
-        files[name + '.txt'] = ''.join(line + '\n' for line in ['step tag kind value'] + lines(name, fields)).encode()
+        files[name] = schedule(fields)
+        for suffix, lines in ('.typed', typed(name, fields)), ('.txt', printed(name, fields)):
+            files[name + suffix] = ''.join(line + '\n' for line in lines).encode()
     return files
 
 

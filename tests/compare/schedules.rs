@@ -5,10 +5,10 @@ use crate::random::Random;
 use crate::tables;
 use std::fmt::Write;
 
-const MOST_BYTES: usize = 65_536;
+pub const MOST_BYTES: usize = 65_536;
 
 /// The length of a tag's body in bytes.
-fn body_length(tag: u8) -> Option<usize> {
+pub fn body_length(tag: u8) -> Option<usize> {
     Some(match tag {
         1 => 20,
         2 | 4 | 5 | 8 | 9 | 10 => 4,
@@ -19,7 +19,7 @@ fn body_length(tag: u8) -> Option<usize> {
 }
 
 /// The tag of the field at the start of these bytes (there is one at least), and its call and length or the kind of its fault.
-fn field(bytes: &[u8]) -> (u8, Result<(Call, usize), u32>) {
+pub fn field(bytes: &[u8]) -> (u8, Result<(Call, usize), u32>) {
     let tag = bytes[0];
     (tag, body(tag, bytes))
 }
@@ -87,7 +87,7 @@ fn answer(table: &mut Vec<u32>, call: Call) -> model::Answer {
 }
 
 /// The field of a call.
-fn put_field(bytes: &mut Vec<u8>, call: Call) {
+pub fn put_field(bytes: &mut Vec<u8>, call: Call) {
     let numbers = call.numbers();
     bytes.push(call.tag());
     bytes.extend((4 * numbers.len() as u16).to_be_bytes());

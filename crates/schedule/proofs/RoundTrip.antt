@@ -158,3 +158,9 @@ module _ (b : List ℕ) (at tag : ℕ) (ns : List ℕ) where
   pub refusal-writes-nothing : (fieldWrite b at tag ns .kind ≡ 0 → ⊥) → (fieldWrite b at tag ns .value ≡ 0) × (fieldWrite b at tag ns .buffer ≡ b)
   refusal-writes-nothing =
       by-kind b at tag ns (λ (o : Outcome). (o .kind ≡ 0 → ⊥) → (o .value ≡ 0) × (o .buffer ≡ b)) (λ z d. absurd (d refl)) (λ _ _. (refl, refl))
+
+  -- The value is a place of the buffer that is left, or its end.
+  pub value-within : {kind value : ℕ} {after : List ℕ} → outcome kind value after ≡ fieldWrite b at tag ns → value ≤ length after
+  value-within e =
+      let v : fieldWrite b at tag ns .value ≤ length b = by-kind b at tag ns (λ (o : Outcome). o .value ≤ length b) (λ z. inside b at tag ns z .0) (λ _. omega arith) in
+      omega (arith, ap (λ (o : Outcome). o .value) e, ap (λ (o : Outcome). length (o .buffer)) e, outside-stays .long)

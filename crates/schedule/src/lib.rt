@@ -2,8 +2,9 @@
 pub mod writing;
 
 ghost use mathlib.Core.Path.{_≡_};
-ghost use Prim.Native.Nat.{_+_, _*_, _<_};
+ghost use Prim.Native.Nat.{_+_, _*_, _≤_, _<_};
 ghost use lib.ListN.{length, getD};
+ghost use Rattle.schedule.specs.Writing.{countOf};
 ghost use Rattle.schedule.specs.Fields.{number, numbersOf, lengthOf, faultKind, fieldAt};
 
 // The numbers of a body in their order; 0 for those that it has not.
@@ -31,6 +32,9 @@ pub enum Field {
 
 // A tag byte and a two-byte length come before a body.
 const HEAD: usize = 3;
+
+// A body's numbers have four bytes each.
+const NUMBER: usize = 4;
 
 // The length of each tag's body; 0 where there is no such tag.
 const LENGTHS: [usize; 11] = [0, 20, 4, 8, 4, 4, 16, 8, 4, 4, 4];
@@ -70,7 +74,7 @@ fn number(body: &[u8], i: usize) -> u32
     requires { ⌜ i < 5 ⌝ }
     ensures { λ r. ⌜ r ≡ number 4 (now (body .entry)) (4 * i) ⌝ }
 {
-    let at = 4 * i;
+    let at = NUMBER * i;
     let high = two_bytes(body, at);
     let low = two_bytes(body, at + 2);
     high * 65536 + low
@@ -95,6 +99,13 @@ pub fn length_of(tag: u8) -> usize
 {
     let k = tag as usize;
     if k < 11 { LENGTHS[k] } else { 0 }
+}
+
+// How many numbers a tag has.
+pub fn count_of(tag: u8) -> usize
+    ensures { λ r. ⌜ (r ≡ countOf tag) × (r ≤ 5) ⌝ }
+{
+    length_of(tag) / NUMBER
 }
 
 // The kind of the first check that fails, where bytes are left and the tag asks for so many bytes; 0 where none fails.

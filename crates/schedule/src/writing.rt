@@ -1,6 +1,8 @@
 // The writer of schedule fields: a tag and its numbers, as the bytes that the reader takes for them.
 use crate::HEAD;
+use crate::NUMBER;
 use crate::UNKNOWN_TAG;
+use crate::count_of;
 use crate::length_of;
 ghost use mathlib.Core.Path.{_≡_};
 ghost use Prim.Native.Nat.{_+_, _*_, _≤_};
@@ -16,10 +18,8 @@ pub struct Written {
     pub value: usize,
 }
 
-// A body's length has two bytes, and each of its numbers four.
+// A body's length has two bytes.
 const LENGTH: usize = 2;
-
-const NUMBER: usize = 4;
 
 // The kinds of the writer's own refusals.
 const OTHER_COUNT: u32 = 23;
@@ -81,7 +81,7 @@ fn write_kind(tag: u8, count: usize, room: usize) -> u32
     if asked == 0 {
         return UNKNOWN_TAG;
     }
-    if count != asked / NUMBER {
+    if count != count_of(tag) {
         return OTHER_COUNT;
     }
     if room < HEAD + asked {
