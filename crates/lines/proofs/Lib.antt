@@ -4,3 +4,4 @@ pub mod Digits
 pub mod Cases
 pub mod Table
 pub mod Texts
+pub mod ReadBack

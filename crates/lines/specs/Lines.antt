@@ -26,5 +26,6 @@ textOf s =
     (cond (eqb (tagOf (firstWord s)) 0) (Wrong 1)
     (stepOf (tagOf (firstWord s)) (numbersFrom (countOf (tagOf (firstWord s))) (afterWord s))))
 
+-- what a line says
 unfoldable pub lineOf : List ℕ → Line
 lineOf line = textOf (beforeComment line)

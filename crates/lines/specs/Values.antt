@@ -15,10 +15,11 @@ use Rattle.lines.specs.Words.{front, isDigit, isEmpty, firstWord, afterW
 abbrev pub isDigits : List ℕ → Bool
 isDigits word = eqb (front isDigit word) (length word)
 
--- one digit more, and the number of a word of digits
+-- a number with one digit more
 abbrev pub oneMore : (value digit : ℕ) → ℕ
 oneMore value digit = value * 10 + (digit - 48)
 
+-- the number of a word of digits, however many
 unfoldable pub decimal : List ℕ → ℕ
 decimal word = foldl oneMore 0 word
 
@@ -46,10 +47,11 @@ unfoldable pub numbersFrom : (count : ℕ) → List ℕ → Numbered
 numbersFrom zero s = cond (isEmpty (firstWord s)) (are []) (wrong 5)
 numbersFrom (suc n) s = before (nextNumber s) (numbersFrom n (afterWord s))
 
--- the same in the code's types: 0 for the numbers that a step has not
+-- five numbers of a list: 0 for those that it has not
 abbrev pub numbersOf : List ℕ → Numbers
 numbersOf vs = record { first = getD vs 0 0; second = getD vs 1 0; third = getD vs 2 0; fourth = getD vs 3 0; fifth = getD vs 4 0 }
 
+-- the numbers of a step, or what is wrong, in the code's type
 abbrev pub told : Numbered → AllNumbers
 told (are vs) = Are (numbersOf vs)
 told (wrong what) = NotAll what

@@ -12,13 +12,15 @@ abbrev pub front : (ℕ → Bool) → List ℕ → ℕ
 front p [] = 0
 front p (x ∷ xs) = cond (p x) (suc (front p xs)) 0
 
--- these bytes, and what is left after them
+-- these bytes
 abbrev pub takeWhile : (ℕ → Bool) → List ℕ → List ℕ
 takeWhile p s = take (front p s) s
 
+-- what is left after them
 abbrev pub dropWhile : (ℕ → Bool) → List ℕ → List ℕ
 dropWhile p s = drop (front p s) s
 
+-- no bytes
 abbrev pub isEmpty : List ℕ → Bool
 isEmpty s = eqb (length s) 0
 
@@ -26,6 +28,7 @@ isEmpty s = eqb (length s) 0
 abbrev pub isBlank : ℕ → Bool
 isBlank c = eqb c 32 || eqb c 9 || eqb c 13
 
+-- any other byte may be in a word
 abbrev pub notBlank : ℕ → Bool
 notBlank c = not (isBlank c)
 
@@ -48,9 +51,10 @@ inRun Digits = isDigit
 abbrev pub beforeComment : List ℕ → List ℕ
 beforeComment line = takeWhile notHash line
 
--- the first word of a text, empty where the text has none, and what follows it
+-- the first word of a text; empty where the text has none
 unfoldable pub firstWord : List ℕ → List ℕ
 firstWord s = takeWhile notBlank (dropWhile isBlank s)
 
+-- what follows it
 unfoldable pub afterWord : List ℕ → List ℕ
 afterWord s = dropWhile notBlank (dropWhile isBlank s)

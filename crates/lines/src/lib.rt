@@ -21,8 +21,16 @@ pub enum Line {
     Wrong { what: u32 },
 }
 
-// What is wrong where the first word is no step's name; for what can be wrong with numbers see values.
+// What can be wrong with a line.
 pub const UNKNOWN_STEP: u32 = 1;
+
+pub const NOT_A_NUMBER: u32 = 2;
+
+pub const TOO_LARGE: u32 = 3;
+
+pub const TOO_FEW_NUMBERS: u32 = 4;
+
+pub const TOO_MANY_NUMBERS: u32 = 5;
 
 // What a text of no comment says.
 fn read_text(text: &[u8]) -> Line

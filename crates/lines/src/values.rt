@@ -1,4 +1,8 @@
 // The numbers of a text.
+use crate::NOT_A_NUMBER;
+use crate::TOO_FEW_NUMBERS;
+use crate::TOO_LARGE;
+use crate::TOO_MANY_NUMBERS;
 use crate::words::Run;
 use crate::words::after_word;
 use crate::words::first_word;
@@ -19,15 +23,6 @@ pub enum AllNumbers {
     Are(Numbers),
     NotAll(u32),
 }
-
-// What can be wrong with numbers.
-pub const NOT_A_NUMBER: u32 = 2;
-
-pub const TOO_LARGE: u32 = 3;
-
-pub const TOO_FEW_NUMBERS: u32 = 4;
-
-pub const TOO_MANY_NUMBERS: u32 = 5;
 
 // The first number that is too large: larger ones are counted as this one.
 const LIMIT: u64 = 4294967296;
