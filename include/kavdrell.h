@@ -1,4 +1,4 @@
-/* Kavdrell: ten steps of interval-based reclamation over one lent table of 32-bit words, and zone records.
+/* Kavdrell: ten steps of interval-based reclamation over one lent table of 32-bit words, zone records, and the writing of schedules.
  *
  * A table is lent to each call as a pointer and its length in words; the call keeps neither. Any input is answered: a null pointer
  * with length 0, a damaged table and any number get a refusal. A refusal leaves every word of the table as it was.
@@ -113,6 +113,25 @@ uint32_t kavdrell_zone_write(int32_t minutes, uint8_t *buffer, size_t bytes);
 
 /* Reads the minutes of such characters: 32, then 30. */
 struct kavdrell_zone_minutes kavdrell_zone_read(const uint8_t *characters, size_t bytes);
+
+/* Schedules: a field is a tag byte, 1 to 10 for the steps in the order above, a two-byte length, and the step's numbers in the order of its
+ * function, four bytes each; most significant byte first. */
+
+/* What a write answers: kind 0 and the place after the field, or a refusal's kind and 0. */
+struct kavdrell_written {
+    uint32_t kind;
+    size_t value;
+};
+
+enum kavdrell_write_kind {
+    KAVDRELL_WRITE_UNKNOWN_TAG = 22,    /* no step has this tag */
+    KAVDRELL_WRITE_OTHER_COUNT = 23,    /* the count of numbers isn't the tag's */
+    KAVDRELL_WRITE_NO_ROOM = 25         /* from the place on there are fewer bytes than the field needs */
+};
+
+/* Writes a step and its numbers at a place of the buffer: 22, then 23, then 25; a refusal writes nothing. Bytes outside the field stay. */
+struct kavdrell_written kavdrell_write_field(uint8_t *buffer, size_t bytes, size_t place, uint8_t tag, const uint32_t *numbers,
+                                             size_t count);
 
 #ifdef __cplusplus
 }

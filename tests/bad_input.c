@@ -32,6 +32,19 @@ static void expect_refused(uint32_t *table, size_t words, uint32_t a, uint32_t b
     expect("tally", kavdrell_tally(table, words, a), KAVDRELL_NOT_SOUND);
 }
 
+/* A field written to no buffer, or of no numbers. */
+static void expect_not_written(uint8_t tag, uint8_t *buffer, size_t bytes, size_t place, size_t count, enum kavdrell_write_kind kind)
+{
+    static const uint32_t numbers[5] = {0};
+    const struct kavdrell_written written = kavdrell_write_field(buffer, bytes, place, tag, count > 0 ? numbers : NULL, count);
+    if (written.kind == (uint32_t)kind && written.value == 0) {
+        passed++;
+        return;
+    }
+    failed++;
+    printf("FAILED: write_field answers kind %u, value %zu; it should be kind %d, value 0\n", (unsigned)written.kind, written.value, (int)kind);
+}
+
 int main(void)
 {
     /* The smallest table has 16 words: whatever stands in these, they are none. */
@@ -49,6 +62,13 @@ int main(void)
                 expect_refused(rubbish, lengths[l], numbers[i], numbers[j]);
         }
     }
+    uint8_t buffer[7];
+    expect_not_written(0, NULL, 0, 0, 0, KAVDRELL_WRITE_UNKNOWN_TAG);
+    expect_not_written(11, NULL, 0, 0, 1, KAVDRELL_WRITE_UNKNOWN_TAG);
+    expect_not_written(2, NULL, 0, 0, 0, KAVDRELL_WRITE_OTHER_COUNT);
+    expect_not_written(2, NULL, 0, 0, 1, KAVDRELL_WRITE_NO_ROOM);
+    expect_not_written(2, buffer, sizeof buffer, 1, 1, KAVDRELL_WRITE_NO_ROOM);
+    expect_not_written(2, buffer, sizeof buffer, SIZE_MAX, 1, KAVDRELL_WRITE_NO_ROOM);
     printf("%u passed, %u failed\n", passed, failed);
     return failed > 0;
 }

@@ -1,8 +1,9 @@
 // The ten steps for C: the table as a pointer and its length in words, then the numbers in a schedule's order. Each answers
-// kind × 2^32 + value. And zone records: the minutes of one, and the characters of the Fortran ZONE argument.
+// kind × 2^32 + value. And zone records: the minutes of one, and the characters of the Fortran ZONE argument. And a field of a schedule, written.
 use numbers::Block;
 use numbers::Slot;
 use numbers::Task;
+use schedule::writing::Written;
 use work::answers::Answer;
 use zone_text::ZoneMinutes;
 use zones::requests::Request;
@@ -11,6 +12,7 @@ ghost use Prim.Native.Nat.{_+_, _*_, _<_};
 ghost use Rattle.rules.specs.Steps.{start, look, settle, make, swap, retire, sweep, end, tally};
 ghost use Rattle.rules.specs.OnTable.{onTable, openTable};
 ghost use Rattle.work.specs.Answers.{kindOf, valueOf};
+ghost use Rattle.schedule.specs.Writing.{outcome, fieldWrite};
 ghost use Rattle.zone_text.specs.Zone.{written, zoneWrite, zoneRead};
 ghost use Rattle.zones.specs.Requests.{lent, hourPart, blockPart};
 ghost use Rattle.zones.specs.Records.{minutesOf};
@@ -123,4 +125,16 @@ pub extern "C" fn kavdrell_zone_block(room: &[u8], block: u32) -> ZoneMinutes
     ensures { λ r. ⌜ r ≡ minutesOf (blockPart (lent (room .entry)) block .bytes) ⌝ }
 {
     zones::requests::minutes(room, room, Request::Block(Block(block)))
+}
+
+#[no_mangle]
+pub extern "C" fn kavdrell_write_field(
+    buffer: &mut [u8],
+    place: usize,
+    tag: u8,
+    numbers: &[u32],
+) -> Written
+    ensures { λ r. ⌜ outcome (r .kind) (r .value) (now (buffer .exit)) ≡ fieldWrite (now (buffer .entry)) place tag (now (numbers .entry)) ⌝ }
+{
+    schedule::writing::write_field(buffer, place, tag, numbers)
 }
