@@ -1,5 +1,4 @@
--- The kind of a write: each from the checks before it, and what kind 0 says. Lengths of the table are whole numbers of 4 bytes, at most five.
--- Assumes nothing.
+-- The kind of a write: each from the checks before it, and what kind 0 says. Assumes nothing.
 use Prim.Native.Nat.{ℕ, zero, suc, _*_, _/_, _≤_, _<_}
 use mathlib.Core.Path.{_≡_}
 use mathlib.Core.Bool.{not}
@@ -24,6 +23,7 @@ module _ (P : ℕ → Type 0) where
   at-place (n ∷ ns) e zero = e .0
   at-place (n ∷ ns) e (suc k) = at-place ns (e .1) k
 
+-- a length of the table is that of whole numbers, at most five
 pub record Fours (n : ℕ) : Type 0 where
   pub whole : 4 * (n / 4) ≡ n
   pub most : n ≤ 20
@@ -32,7 +32,7 @@ pub fours : (tag : ℕ) → Fours (lengthOf tag)
 fours = at-place Fours lengths (search needs)
 
 -- kind 0: the tag is known, the numbers are as many as it has, and there is room
-pub record Free (tag count room : ℕ) : Type 0 where
+pub record Allowed (tag count room : ℕ) : Type 0 where
   pub known : lengthOf tag ≡ 0 → ⊥
   pub counted : count ≡ countOf tag
   pub fits : sizeOf tag ≤ room
@@ -56,13 +56,13 @@ module _ (tag count room : ℕ) where
       unfolding writeKind
       none h = simp (ne-eqb (lengthOf tag) 0 known, eq-eqb count (countOf tag) counted, le-ltb room (sizeOf tag) h)
 
-  pub free : writeKind tag count room ≡ 0 → Free tag count room
+  pub allowed : writeKind tag count room ≡ 0 → Allowed tag count room
   unfolding writeKind
-  free =
+  allowed =
       by-test Q (eqb (lengthOf tag) 0) (λ _ z. absurd (omega arith)) (λ known.
       by-test Q (not (eqb count (countOf tag))) (λ _ z. absurd (omega arith)) (λ counted.
       by-test Q (ltb room (sizeOf tag)) (λ _ z. absurd (omega arith)) (λ fits _.
       record { known = eqb-false _ _ known; counted = eqb-true _ _ (not-false _ counted); fits = ltb-false _ _ fits })))
     where
       Q : ℕ → Type 0
-      Q kind = kind ≡ 0 → Free tag count room
+      Q kind = kind ≡ 0 → Allowed tag count room

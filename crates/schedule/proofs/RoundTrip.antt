@@ -13,7 +13,7 @@ use Rattle.schedule.specs.Fields.{lengthOf, number, numbersOf, left, par
 use Rattle.schedule.specs.Writing.{bytesOf, bodyOf, fieldOf, countOf, sizeOf, listOf, fiveOf, Outcome, outcome, placed, fieldWrite}
 use Rattle.schedule.proofs.Bytes.{Below, number-behind, number-bytes, number-body, part-add, below-part, take-read, bytes-number, body-numbers}
 use Rattle.schedule.proofs.Faults as faults
-use Rattle.schedule.proofs.Refusals.{fours, free, none}
+use Rattle.schedule.proofs.Refusals.{fours, allowed, none}
 use Rattle.schedule.proofs.Stands.{stands, whole, Whole}
 use Rattle.schedule.proofs.Stores.{length-bytes, length-body, length-field}
 use Rattle.schedule.proofs.Writes.{its-kind, inside, made, by-kind}
@@ -67,12 +67,12 @@ written-reads-back b at tag ns below accepted =
     let z = its-kind b at tag ns ∙ accepted in
     let i = inside b at tag ns z in
     rw (made b at tag ns z)
-    (read-there (take at b) tag ns _ (length-take-le at b (omega arith)) (i .1) below (free tag (length ns) (left b at) z .known))
+    (read-there (take at b) tag ns _ (length-take-le at b (omega arith)) (i .1) below (allowed tag (length ns) (left b at) z .known))
 
 -- and these five numbers are all that were written
 pub none-lost : (b : List ℕ) (at tag : ℕ) (ns : List ℕ) → fieldWrite b at tag ns .kind ≡ 0 → listOf tag (fiveOf ns) ≡ ns
 none-lost b at tag ns accepted =
-    let f = free tag (length ns) (left b at) (its-kind b at tag ns ∙ accepted) in
+    let f = allowed tag (length ns) (left b at) (its-kind b at tag ns ∙ accepted) in
     let k = fours tag .most in
     rw (← f .counted) (five-back ns (omega arith))
   where

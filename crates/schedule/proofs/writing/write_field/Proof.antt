@@ -3,16 +3,16 @@ use Prim.Native.Nat.{_+_, _*_, _≤_}
 use mathlib.Core.Path.{_≡_, ap, sym, _∙_}
 use native.Mathlib.Omega.{arith}
 use lib.ListN.{length}
-use Rattle.schedule.specs.Fields.{lengthOf, left}
+use Rattle.schedule.specs.Fields.{lengthOf}
 use Rattle.schedule.specs.Writing.{sizeOf, writeKind}
-use Rattle.schedule.proofs.Writes.{inside, refused, done}
+use Rattle.schedule.proofs.Writes.{kind, inside, refused, done}
 use borrow.Author.Needs.{needs}
 use Rattle.schedule.proofs.writing.write_field.Statement.{statement}
 use Rattle.schedule.proofs.writing.write_field.Tie as tie
 
 -- the kind that the checks give
 found : (c : tie.After-write-kind) → let start = c .before .before .before .before .before in
-    c .write-kind .result ≡ writeKind (start .args .tag) (length (start .args .numbers .now)) (left (start .args .buffer .now) (start .args .at))
+    c .write-kind .result ≡ kind (start .args .buffer .now) (start .args .at) (start .args .tag) (start .args .numbers .now)
 found c = c .write-kind .ensures ∙ ap (writeKind _ _) (c .before .room .ensures)
 
 room : (c : tie.Else1) → let start = c .before .before .before .before .before .before in
