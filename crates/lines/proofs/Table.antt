@@ -10,7 +10,7 @@ use lib.ListN.{length, getD, set, take, drop, replicate, length-append, length-t
 use lib.Seq.{drop-cons, take-append-seam, drop-at, drop-drop, take-take, take-suc, take-suc-set, getD-drop}
 use borrow.Author.Tests.{eqb-true, eqb-false}
 use Rattle.schedule.proofs.Faults.{by-test}
-use Rattle.lines.specs.Names.{names, nameOf, Left, same, tagFrom}
+use Rattle.lines.specs.Names.{names, nameOf, NameAtStart, same, tagFrom}
 
 -- names filled up to six bytes, one after another
 abbrev pub filled : List ℕ → List ℕ
@@ -54,10 +54,10 @@ starts tag i out six e =
     let few : n ≤ i = omega (arith, stands tag .0) in
     sym (take-take n i out few) ∙ ap (λ (l : List ℕ). take n l) e ∙ take-take n i (drop (tag * 6) (flat ([] ∷ names))) few ∙ stands tag .1
 
-pub name-left : (tag n : ℕ) (out : List ℕ) → n ≡ length (nameOf tag) → n ≤ 6 → length out ≡ 6 → take (length (nameOf tag)) out ≡ nameOf tag → Left tag n out
+pub name-left : (tag n : ℕ) (out : List ℕ) → n ≡ length (nameOf tag) → n ≤ 6 → length out ≡ 6 → take (length (nameOf tag)) out ≡ nameOf tag → NameAtStart tag n out
 name-left tag n out size six room e = (rw size e, omega arith, simp length-take (omega arith))
 
-pub none-left : (tag : ℕ) (out : List ℕ) → 10 < tag → Left tag 0 out
+pub none-left : (tag : ℕ) (out : List ℕ) → 10 < tag → NameAtStart tag 0 out
 none-left tag out h = (sym (List·getD-eq-default ([] ∷ names) [] h), omega arith, refl)
 
 -- a test that passes just where two words are equal

@@ -26,8 +26,8 @@ abbrev pub nameOf : (tag : ℕ) → List ℕ
 nameOf tag = getD ([] ∷ names) tag []
 
 -- the first n bytes of a buffer are the name of a tag. The last two parts are stated so that callers have the part of the buffer.
-abbrev pub Left : (tag n : ℕ) → List ℕ → Type 0
-Left tag n out = (take n out ≡ nameOf tag) × (n ≤ length out) × (n ≡ length (take n out))
+abbrev pub NameAtStart : (tag n : ℕ) → List ℕ → Type 0
+NameAtStart tag n out = (take n out ≡ nameOf tag) × (n ≤ length out) × (n ≡ length (take n out))
 
 -- two words are the same, byte for byte
 abbrev pub same : List ℕ → List ℕ → Bool

@@ -11,8 +11,8 @@ ghost use mathlib.Core.Path.{_≡_};
 ghost use Rattle.lines.specs.Lines.{textOf, lineOf};
 
 pub mod names;
-pub mod values;
-pub mod words;
+mod values;
+mod words;
 
 // What a line says: nothing, a step and its numbers (0 for those that it has not), or what is wrong with it.
 pub enum Line {

@@ -2,7 +2,7 @@
 ghost use mathlib.Core.Path.{_≡_};
 ghost use Prim.Native.Nat.{_≤_};
 ghost use lib.ListN.{length, take};
-ghost use Rattle.lines.specs.Names.{nameOf, Left, same, tagOf};
+ghost use Rattle.lines.specs.Names.{nameOf, NameAtStart, same, tagOf};
 
 // Six bytes for the name of each tag, filled up with spaces; tag 0 is no step's.
 const NAMES: [u8; 66] = *b"      open  start look  settlemake  swap  retiresweep end   tally ";
@@ -34,7 +34,7 @@ fn copy_six(tag: u8, out: &mut [u8])
 
 // Leaves a tag's name at the start of a buffer, and gives its length.
 pub fn put_name(tag: u8, out: &mut [u8; 6]) -> usize
-    ensures { λ r. ⌜ Left tag r (now (out .exit)) ⌝ }
+    ensures { λ r. ⌜ NameAtStart tag r (now (out .exit)) ⌝ }
 {
     if tag > LAST_TAG {
         return 0;
