@@ -6,12 +6,13 @@ use mathlib.Core.List.{List, []}
 use lib.ListN.{length}
 use borrow.Author.Tests.{eq-eqb, ne-eqb, lt-ltb, le-ltb}
 use Rattle.schedule.specs.declared.Numbers.{Numbers}
+use Rattle.schedule.specs.Writing.{fiveOf}
 use Rattle.lines.specs.declared.values.OneNumber.{OneNumber}
 use Rattle.lines.specs.declared.values.OneNumber.the-variants.{Value, NoValue}
 use Rattle.lines.specs.declared.values.AllNumbers.{AllNumbers}
 use Rattle.lines.specs.declared.values.AllNumbers.the-variants.{Are, NotAll}
 use Rattle.lines.specs.Words.{front, isDigit, firstWord, afterWord}
-use Rattle.lines.specs.Values.{decimal, numberOf, nextNumber, Numbered, are, wrong, before, numbersFrom, numbersOf, told}
+use Rattle.lines.specs.Values.{decimal, numberOf, nextNumber, Numbered, are, wrong, before, numbersFrom, told}
 
 -- the number of a word
 module _ (word : List ℕ) {n : ℕ} (run : n ≡ front isDigit word) where
@@ -62,7 +63,7 @@ module _ (v : ℕ) {rest : AllNumbers} where
   pub joined-are : {n : Numbers} → rest ≡ Are n → (more : Numbered) → rest ≡ told more
       → Are (record { first = v; second = n .first; third = n .second; fourth = n .third; fifth = n .fourth }) ≡ told (before (Value v) more)
   joined-are {n} q (are vs) e =
-      let same : n ≡ numbersOf vs = cc in
+      let same : n ≡ fiveOf vs = cc in
       ap (λ (m : Numbers). Are (record { first = v; second = m .first; third = m .second; fourth = m .third; fifth = m .fourth })) same
   joined-are q (wrong w) e = never (sym q ∙ e)
 

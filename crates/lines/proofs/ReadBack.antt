@@ -11,12 +11,14 @@ use lib.ListN.{length, length-append, length-map}
 use lib.Seq.{take-at, drop-at, take-all}
 use borrow.Author.Tests.{leb-true, ltb-true, le-leb, ne-eqb, not-true}
 use Rattle.schedule.proofs.Faults.{by-test}
+use Rattle.schedule.proofs.Bytes.{Below}
+use Rattle.schedule.specs.Writing.{countOf, fiveOf}
 use Rattle.lines.specs.declared.values.OneNumber.the-variants.{Value}
 use Rattle.lines.specs.declared.Line.the-variants.{Step}
 use Rattle.lines.specs.Words.{front, takeWhile, dropWhile, isBlank, notBlank, notHash, isDigit, firstWord, afterWord}
-use Rattle.lines.specs.Values.{oneMore, decimal, nextNumber, are, numbersFrom, numbersOf, told}
+use Rattle.lines.specs.Values.{oneMore, decimal, nextNumber, are, numbersFrom, told}
 use Rattle.lines.specs.Names.{nameOf, tagOf}
-use Rattle.lines.specs.Lines.{countOf, textOf, lineOf}
+use Rattle.lines.specs.Lines.{textOf, lineOf}
 use Rattle.lines.specs.Typed.{lastDigits, digitsOf, spaced, typed}
 use Rattle.lines.proofs.Cases.{value, a-word}
 use Rattle.lines.proofs.Texts.{step}
@@ -126,7 +128,7 @@ all-named = ((((((((((search arith, refl), refl), refl), refl), refl), refl), re
 
 module _ (tag : ℕ) (low : 1 ≤ tag) (high : tag ≤ 10) (words : List (List ℕ)) (h : Numerals words) where
   -- a name and numbers after spaces are read as that step with those numbers
-  pub words-back : length words ≡ countOf tag → lineOf (nameOf tag ++ spaced words) ≡ Step tag (numbersOf (map decimal words))
+  pub words-back : length words ≡ countOf tag → lineOf (nameOf tag ++ spaced words) ≡ Step tag (fiveOf (map decimal words))
   unfolding lineOf
   words-back e =
       let name = nameOf tag in
@@ -166,11 +168,6 @@ last-spell (suc k) n h =
     let b = rw pow-suc at h in
     by-test (Spells n) (ltb n 10) (λ t. one-digit n (ltb-true n 10 t)) (λ t. one-more n (lastDigits k (n / 10)) (last-spell k (n / 10) (omega arith)))
 
--- numbers of 32 bits
-abbrev pub Small : List ℕ → Type 0
-Small [] = 0 ≤ 0
-Small (n ∷ more) = (n < 4294967296) × Small more
-
 spelled : (n : ℕ) → n < 4294967296 → Spells n (digitsOf n)
 unfolding digitsOf
 spelled n h = last-spell 10 n (omega arith)
@@ -179,18 +176,19 @@ some-digit : (n : ℕ) → 1 ≤ length (digitsOf n)
 unfolding digitsOf
 some-digit n = by-test (λ (l : List ℕ). 1 ≤ length l) (ltb n 10) (λ t. omega arith) (λ t. simp length-append (omega arith))
 
-all-numerals : (ns : List ℕ) → Small ns → Numerals (map digitsOf ns)
-all-numerals [] h = h
-all-numerals (n ∷ more) (l, ls) =
-    let e = spelled n l in
-    (record { some = some-digit n; digits = e .0; small = omega arith }, all-numerals more ls)
+all-numerals : (ns : List ℕ) → Below 4294967296 ns → Numerals (map digitsOf ns)
+all-numerals [] h = omega arith
+all-numerals (n ∷ more) h =
+    let e = spelled n (h 0) in
+    let l = h 0 in
+    (record { some = some-digit n; digits = e .0; small = omega arith }, all-numerals more (λ i. h (suc i)))
 
-all-spelled : (ns : List ℕ) → Small ns → map decimal (map digitsOf ns) ≡ ns
+all-spelled : (ns : List ℕ) → Below 4294967296 ns → map decimal (map digitsOf ns) ≡ ns
 all-spelled [] h = refl
-all-spelled (n ∷ more) (l, ls) = rw (spelled n l .1, all-spelled more ls)
+all-spelled (n ∷ more) h = rw (spelled n (h 0) .1, all-spelled more (λ i. h (suc i)))
 
 -- a step typed as text, its name and its numbers, is read back as that step with those numbers
-pub read-back : (tag : ℕ) → 1 ≤ tag → tag ≤ 10 → (numbers : List ℕ) → Small numbers → length numbers ≡ countOf tag → lineOf (typed tag numbers) ≡ Step tag (numbersOf numbers)
+pub read-back : (tag : ℕ) → 1 ≤ tag → tag ≤ 10 → (numbers : List ℕ) → Below 4294967296 numbers → length numbers ≡ countOf tag → lineOf (typed tag numbers) ≡ Step tag (fiveOf numbers)
 read-back tag low high numbers h e =
     words-back tag low high (map digitsOf numbers) (all-numerals numbers h) (length-map numbers digitsOf ∙ e)
-    ∙ ap (λ (ns : List ℕ). Step tag (numbersOf ns)) (all-spelled numbers h)
+    ∙ ap (λ (ns : List ℕ). Step tag (fiveOf ns)) (all-spelled numbers h)

@@ -1,22 +1,18 @@
 -- What a line of a schedule typed as text says. Assumes nothing.
-use Prim.Native.Nat.{ℕ, _/_}
+use Prim.Native.Nat.{ℕ}
 use mathlib.Core.Bool.{cond}
 use mathlib.Core.List.{List}
 use lib.Dec.{eqb}
-use Rattle.schedule.specs.Fields.{lengthOf}
+use Rattle.schedule.specs.Writing.{countOf, fiveOf}
 use Rattle.lines.specs.declared.Line.{Line}
 use Rattle.lines.specs.declared.Line.the-variants.{Blank, Step, Wrong}
 use Rattle.lines.specs.Words.{isEmpty, beforeComment, firstWord, afterWord}
-use Rattle.lines.specs.Values.{Numbered, are, wrong, numbersFrom, numbersOf}
+use Rattle.lines.specs.Values.{Numbered, are, wrong, numbersFrom}
 use Rattle.lines.specs.Names.{tagOf}
-
--- how many numbers a step takes: each has 4 bytes of its body
-abbrev pub countOf : (tag : ℕ) → ℕ
-countOf tag = lengthOf tag / 4
 
 -- a step and its numbers, or what is wrong with them
 abbrev pub stepOf : (tag : ℕ) → Numbered → Line
-stepOf tag (are vs) = Step tag (numbersOf vs)
+stepOf tag (are vs) = Step tag (fiveOf vs)
 stepOf tag (wrong what) = Wrong what
 
 -- a text of no comment: no word is blank, a first word that is no step's name is 1, and else the numbers decide

@@ -3,8 +3,8 @@ use Prim.Native.Nat.{ℕ, zero, suc, _+_, _*_, _-_}
 use mathlib.Core.Bool.{Bool, cond, not}
 use mathlib.Core.List.{List, [], _∷_, foldl}
 use lib.Dec.{ltb, eqb}
-use lib.ListN.{length, getD}
-use Rattle.schedule.specs.declared.Numbers.{Numbers}
+use lib.ListN.{length}
+use Rattle.schedule.specs.Writing.{fiveOf}
 use Rattle.lines.specs.declared.values.OneNumber.{OneNumber}
 use Rattle.lines.specs.declared.values.OneNumber.the-variants.{Value, NoValue}
 use Rattle.lines.specs.declared.values.AllNumbers.{AllNumbers}
@@ -47,11 +47,7 @@ unfoldable pub numbersFrom : (count : ℕ) → List ℕ → Numbered
 numbersFrom zero s = cond (isEmpty (firstWord s)) (are []) (wrong 5)
 numbersFrom (suc n) s = before (nextNumber s) (numbersFrom n (afterWord s))
 
--- five numbers of a list: 0 for those that it has not
-abbrev pub numbersOf : List ℕ → Numbers
-numbersOf vs = record { first = getD vs 0 0; second = getD vs 1 0; third = getD vs 2 0; fourth = getD vs 3 0; fifth = getD vs 4 0 }
-
 -- the numbers of a step, or what is wrong, in the code's type
 abbrev pub told : Numbered → AllNumbers
-told (are vs) = Are (numbersOf vs)
+told (are vs) = Are (fiveOf vs)
 told (wrong what) = NotAll what

@@ -1,7 +1,7 @@
 // The reading of one line of a schedule typed as text: a step's name and its numbers.
 use names::tag_of;
 use schedule::Numbers;
-use schedule::length_of;
+use schedule::count_of;
 use values::AllNumbers;
 use values::numbers_from;
 use words::after_word;
@@ -44,7 +44,7 @@ fn read_text(text: &[u8]) -> Line
     if tag == 0 {
         return Line::Wrong { what: UNKNOWN_STEP };
     }
-    match numbers_from(after_word(text), length_of(tag) / 4) {
+    match numbers_from(after_word(text), count_of(tag)) {
         AllNumbers::Are(numbers) => Line::Step { tag, numbers },
         AllNumbers::NotAll(what) => Line::Wrong { what },
     }

@@ -94,7 +94,7 @@ pub fn numbers_of(body: &[u8]) -> Numbers
 }
 
 // The length that a tag asks for.
-pub fn length_of(tag: u8) -> usize
+fn length_of(tag: u8) -> usize
     ensures { λ r. ⌜ r ≡ lengthOf tag ⌝ }
 {
     let k = tag as usize;

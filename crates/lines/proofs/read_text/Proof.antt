@@ -15,14 +15,14 @@ returns-3 c =
     let read = c .before .before .before in
     let known = read .before .before .before in
     step _ (known .before .before .before .first-word .ensures) (known .before .before .if1 .left) (known .before .tag-of .ensures) (known .if2 .left)
-    (read .before .before .after-word .ensures) (read .before .length-of .ensures) (read .numbers-from .ensures) (c .before .numbers .given .1)
+    (read .before .before .after-word .ensures) (read .before .count-of .ensures .0) (read .numbers-from .ensures) (c .before .numbers .given .1)
 
 returns-4 : tie.Need-returns-4
 returns-4 c =
     let read = c .before .before .before in
     let known = read .before .before .before in
     no-step _ (known .before .before .before .first-word .ensures) (known .before .before .if1 .left) (known .before .tag-of .ensures) (known .if2 .left)
-    (read .before .before .after-word .ensures) (read .before .length-of .ensures) (read .numbers-from .ensures) (c .before .what .given .1)
+    (read .before .before .after-word .ensures) (read .before .count-of .ensures .0) (read .numbers-from .ensures) (c .before .what .given .1)
 
 pub read-text-spec : {M : Type 1} → statement M
 read-text-spec =
