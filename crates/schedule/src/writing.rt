@@ -78,10 +78,11 @@ fn write_kind(tag: u8, count: usize, room: usize) -> u32
     ensures { λ r. ⌜ r ≡ writeKind tag count room ⌝ }
 {
     let asked = length_of(tag);
+    let due = count_of(tag);
     if asked == 0 {
         return UNKNOWN_TAG;
     }
-    if count != count_of(tag) {
+    if count != due {
         return OTHER_COUNT;
     }
     if room < HEAD + asked {

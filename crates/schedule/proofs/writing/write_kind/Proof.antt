@@ -23,4 +23,4 @@ returns-4 c = none _ _ _ (λ e. omega arith) (omega arith) (omega arith)
 pub write-kind-spec : {M : Type 1} → statement M
 write-kind-spec =
     tie.close
-    (tie.spec (λ c κs. search needs) returns (λ c κs. search needs) returns-2 add-if3 returns-3 returns-4)
+    (tie.spec (λ c κs. search needs) (λ c κs. search needs) returns returns-2 add-if3 returns-3 returns-4)
