@@ -160,6 +160,15 @@ fn any_block(random: &mut Random) -> Block {
     random.of(&[Block::Made { maker: task, birth }, Block::Shown { birth }, Block::Retired { retirer: task, birth, retire }])
 }
 
+/// Task 0's made blocks become task 1's, so that task 0 may end.
+fn made_by_others(state: &mut State) {
+    for block in &mut state.blocks {
+        if let Block::Made { maker, .. } = block {
+            *maker = 1;
+        }
+    }
+}
+
 /// The cases, each on so many tables of these sizes.
 fn cases(sizes: Sizes, tables: u64) -> Vec<Case> {
     let states: Vec<State> = (1..=tables).map(|seed| mixed(sizes, seed)).collect();
@@ -182,7 +191,7 @@ fn cases(sizes: Sizes, tables: u64) -> Vec<Case> {
         case("retire", Call::Retire { task: 0, block: n - 1 }, as_it_is),
         case("retire and sweep", Call::Retire { task: 0, block: n - 1 }, |state| state.sizes.retirements_per_sweep = 1),
         case("sweep", Call::Sweep { task: 0 }, as_it_is),
-        case("end", Call::End { task: 0 }, as_it_is),
+        case("end", Call::End { task: 0 }, made_by_others),
         case("tally", Call::Tally { state: 3 }, as_it_is),
         case("the walk alone", Call::Tally { state: 4 }, as_it_is),
     ];

@@ -5,7 +5,7 @@
 
 enum { IDLE, WORKING, LOOKING };
 enum { FREE, MADE, SHOWN, RETIRED };
-enum { DONE, NOT_SOUND, BAD_SIZE, NO_TASK, WRONG_PHASE, NO_SLOT, NO_BLOCK, NOT_ALLOWED, STILL_NAMED, NONE_FREE, EXHAUSTED, LOOK_AGAIN };
+enum { DONE, NOT_SOUND, BAD_SIZE, NO_TASK, WRONG_PHASE, NO_SLOT, NO_BLOCK, NOT_ALLOWED, STILL_NAMED, NONE_FREE, EXHAUSTED, LOOK_AGAIN, UNSHOWN };
 
 #define IDLE_MARK 4294967295u
 #define LAST_EPOCH 4294967294u
@@ -100,6 +100,14 @@ static uint32_t count_retired(uint32_t *t, uint32_t task)
     for (uint32_t i = 0; i < sizes(t)->blocks; i++)
         count += blocks(t)[i].state == RETIRED && blocks(t)[i].task == task;
     return count;
+}
+
+static int made_any(uint32_t *t, uint32_t task)
+{
+    for (uint32_t i = 0; i < sizes(t)->blocks; i++)
+        if (blocks(t)[i].state == MADE && blocks(t)[i].task == task)
+            return 1;
+    return 0;
 }
 
 static int named(uint32_t *t, uint32_t block)
@@ -267,6 +275,8 @@ uint64_t rules_end(uint32_t *t, size_t words, uint32_t task)
     struct task *own = &tasks(t)[task];
     if (own->phase == IDLE)
         return answer(WRONG_PHASE, 0);
+    if (made_any(t, task))
+        return answer(UNSHOWN, 0);
     *own = (struct task){IDLE_MARK, IDLE_MARK, own->makes, IDLE, 0};
     return answer(DONE, 0);
 }

@@ -13,7 +13,7 @@
 extern "C" {
 #endif
 
-/* What a call answers: kinds 1 to 10 are refusals, with value 0, in the order they are checked. */
+/* What a call answers: kinds 1 to 10 and 12 are refusals, with value 0, in the order they are checked. */
 enum kavdrell_kind {
     KAVDRELL_DONE = 0,          /* the step is done */
     KAVDRELL_NOT_SOUND = 1,     /* the table isn't sound */
@@ -26,7 +26,8 @@ enum kavdrell_kind {
     KAVDRELL_STILL_NAMED = 8,   /* retire: a slot still names the block */
     KAVDRELL_NONE_FREE = 9,     /* make: no block is free */
     KAVDRELL_EXHAUSTED = 10,    /* make: the task's makes or the epochs are used up */
-    KAVDRELL_LOOK_AGAIN = 11    /* settle: not a refusal; the interval has grown, look again */
+    KAVDRELL_LOOK_AGAIN = 11,   /* settle: not a refusal; the interval has grown, look again */
+    KAVDRELL_UNSHOWN = 12       /* end: the task has made a block that it has neither shown nor retired */
 };
 
 /* The states of a block, which tally counts. */
@@ -80,7 +81,7 @@ uint64_t kavdrell_retire(uint32_t *table, size_t words, uint32_t task, uint32_t 
 /* Frees each block that this task retired and no task's interval meets. Value: how many. */
 uint64_t kavdrell_sweep(uint32_t *table, size_t words, uint32_t task);
 
-/* A working task becomes idle: what it was handed is no longer safe. */
+/* A working task becomes idle: what it was handed is no longer safe. Each block that it made has to be shown or retired before. */
 uint64_t kavdrell_end(uint32_t *table, size_t words, uint32_t task);
 
 /* Changes nothing. Value: how many blocks are in this state (enum kavdrell_state). */

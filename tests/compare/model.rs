@@ -394,6 +394,9 @@ impl State {
 
     fn end(&mut self, task: u32) -> Result<u32, u32> {
         self.working(task)?;
+        if self.count(|b| matches!(b, Block::Made { maker, .. } if maker == task)) > 0 {
+            return Err(12);
+        }
         self.task(task)?.phase = Phase::Idle;
         Ok(0)
     }

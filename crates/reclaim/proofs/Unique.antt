@@ -9,14 +9,14 @@ use Rattle.work.specs.Answers.{kindOf, valueOf, told}
 use Rattle.work.specs.declared.answers.Answer.{Answer}
 use Rattle.work.specs.declared.answers.Answer.the-variants.{Done, LookAgain, Refused}
 use Rattle.work.specs.declared.answers.Refusal.{Refusal}
-use Rattle.work.specs.declared.answers.Refusal.the-variants.{Unsound, BadSize, NotThere, WrongPhase, NoSlot, NoBlock, WrongBlock, StillNamed, NoneFree, Exhausted}
+use Rattle.work.specs.declared.answers.Refusal.the-variants.{Unsound, BadSize, NotThere, WrongPhase, NoSlot, NoBlock, WrongBlock, StillNamed, NoneFree, Exhausted, Unshown}
 use Rattle.reclaim.specs.Promises.{PublicCall, promised}
 
 -- the answer that a kind and a value say
 refusalOf : ℕ → Refusal
 refusalOf n =
     cond (eqb n 1) Unsound (cond (eqb n 2) BadSize (cond (eqb n 3) NotThere (cond (eqb n 4) WrongPhase (cond (eqb n 5) NoSlot
-    (cond (eqb n 6) NoBlock (cond (eqb n 7) WrongBlock (cond (eqb n 8) StillNamed (cond (eqb n 9) NoneFree Exhausted))))))))
+    (cond (eqb n 6) NoBlock (cond (eqb n 7) WrongBlock (cond (eqb n 8) StillNamed (cond (eqb n 9) NoneFree (cond (eqb n 10) Exhausted Unshown)))))))))
 
 answerOf : (kind value : ℕ) → Answer
 answerOf kind value = cond (eqb kind 0) (Done value) (cond (eqb kind 11) LookAgain (Refused (refusalOf kind)))
@@ -35,6 +35,7 @@ answer-back (Refused WrongBlock) = refl
 answer-back (Refused StillNamed) = refl
 answer-back (Refused NoneFree) = refl
 answer-back (Refused Exhausted) = refl
+answer-back (Refused Unshown) = refl
 
 -- two answers with the same kind and value are the same answer
 same-answer : (a b : Answer) → kindOf a ≡ kindOf b → valueOf a ≡ valueOf b → a ≡ b

@@ -2,6 +2,7 @@
 pub mod Sums
 pub mod Checks
 pub mod Changes
+pub mod Ends
 pub mod Kept
 pub mod Guarded
 pub mod Bounded

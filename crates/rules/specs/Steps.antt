@@ -172,9 +172,12 @@ sweepChecks s k = noTask s k ∷ []
 unfoldable pub sweep : State → (k : ℕ) → Outcome
 sweep s k = checked s (sweepChecks s k) (sweepDone s k)
 
--- End (task working): idle mark in both, phase 0, candidate 0.
+-- End (task working): idle mark in both, phase 0, candidate 0. It is refused while any block is in state made by this task (02, request iii).
+unfoldable pub unshown : State → (k : ℕ) → Bool
+unshown s k = some (madeBy k) (s .blocks)
+
 abbrev pub endChecks : State → (k : ℕ) → List Check
-endChecks s k = noTask s k ∷ notInPhase isWorking s k ∷ []
+endChecks s k = noTask s k ∷ notInPhase isWorking s k ∷ refusedWhere (unshown s k) 12 ∷ []
 
 abbrev pub endDone : State → (k : ℕ) → Outcome
 endDone s k = answers 0 0 (withTask s k (ended (taskOf s k)))

@@ -6,7 +6,7 @@ use mathlib.Core.Bool.{true}
 use mathlib.Core.List.{List, [], _∷_, _++_}
 use Rattle.table.specs.State.{State, taskOf, blockOf}
 use Rattle.rules.specs.Sweeping.{unmet, frees}
-use Rattle.rules.specs.Steps.{opened, start, look, settle, make, swap, retire, named, retiredCount, sweep, end}
+use Rattle.rules.specs.Steps.{opened, start, look, settle, make, swap, retire, named, retiredCount, sweep, unshown, end}
 use Rattle.rules.specs.Calls.{Call, starts, looks, settles, makes, swaps, retires, sweeps, ends, step, after, neverEnds}
 use Rattle.rules.specs.Terms.{Reached, lookStands}
 
@@ -22,7 +22,7 @@ night = starts 0 ∷ starts 1 ∷ makes 1 ∷ makes 1 ∷ swaps 1 0 0 2 ∷ look
 
 pub night-replies : replies (opened 2 4 1 2 1) night
     ≡ (0, 0) ∷ (0, 0) ∷ (0, 1) ∷ (0, 2) ∷ (0, 1) ∷ (0, 0) ∷ (11, 0) ∷ (0, 1) ∷ (0, 0) ∷ (0, 0) ∷ (0, 0) ∷ (0, 0) ∷ (0, 1) ∷ (0, 2) ∷ []
-unfolding start look settle make swap retire named retiredCount sweep end frees unmet
+unfolding start look settle make swap retire named retiredCount sweep unshown end frees unmet
 night-replies = refl
 
 -- with the settle of step 8 moved after step 10: the retire frees block 2, and the settle says to look again
@@ -69,5 +69,5 @@ unfolding start look settle make swap retire named retiredCount sweep frees unme
 still-there = refl
 
 pub freed-after-end : blockOf (after later (ends 0 ∷ sweeps 0 ∷ sweeps 1 ∷ [])) 2 .state ≡ 0
-unfolding start look settle make swap retire named retiredCount sweep end frees unmet
+unfolding start look settle make swap retire named retiredCount sweep unshown end frees unmet
 freed-after-end = refl

@@ -8,8 +8,8 @@ use mathlib.Core.Path.{_≡_, refl, sym, ap, ap₂, _∙_}
 use mathlib.Core.Bool.{Bool, true, false, cond, not, true≢false}
 use mathlib.Core.List.{List, [], _∷_, map}
 use lib.ListN.{length, getD, set, List·getD-eq-default}
-use lib.Dec.{eqb}
-use borrow.Author.Tests.{ne-eqb}
+use lib.Dec.{ltb, eqb}
+use borrow.Author.Tests.{lt-ltb, ne-eqb}
 use lib.Seq.{getD-set-same, getD-set-other, set-out}
 use Rattle.table.specs.Lists.{all, some, count, first, fromOne, putFromOne}
 use Rattle.table.proofs.Tests.{two, both, neither, either, or-right, decide}
@@ -91,6 +91,12 @@ module _ {A : Type 0} where
   pub count-none : (f : A → Bool) (l : List A) (d : A) → ((i : ℕ) → i < length l → f (getD l i d) ≡ false) → count f l ≡ 0
   count-none f [] d h = refl
   count-none f (x ∷ xs) d h = rw (h 0 (omega arith), count-none f xs d (λ i l. h (suc i) (omega arith)))
+
+  pub some-count : (f : A → Bool) (l : List A) → some f l ≡ ltb 0 (count f l)
+  some-count f [] = refl
+  some-count f (x ∷ xs) =
+      let none : count f xs ≡ 0 + count f xs = omega arith in
+      decide (f x) (λ p. rw p (sym (lt-ltb 0 (1 + count f xs) (omega arith)))) (λ p. rw p (some-count f xs ∙ ap (ltb 0) none))
 
   pub count-same : (f g : A → Bool) (l : List A) → ((x : A) → f x ≡ g x) → count f l ≡ count g l
   count-same f g [] h = refl

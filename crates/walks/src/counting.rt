@@ -1,4 +1,4 @@
-// How many blocks a tally or a retire counts.
+// How many blocks a tally, a retire or an end counts.
 use numbers::Block;
 use numbers::Task;
 use table::records::BlockRecord;
@@ -12,9 +12,10 @@ ghost use Rattle.table.specs.Records.{blockRow};
 ghost use Rattle.table.specs.Words.{Exact, stateOf};
 ghost use Rattle.walks.specs.Wanted.{wants};
 
-// The blocks in a state, or those retired by a task.
+// The blocks in a state, those in state made by a task, or those retired by it.
 pub enum Wanted {
     InState(u32),
+    MadeBy(Task),
     RetiredBy(Task),
 }
 
@@ -24,6 +25,13 @@ fn one_if(wanted: Wanted, b: BlockRecord) -> u32
 {
     match wanted {
         Wanted::InState(state) => { if b.state == state { 1 } else { 0 } }
+        Wanted::MadeBy(task) => {
+            if (b.state == BlockRecord::MADE) & (b.task.0 == task.0) {
+                1
+            } else {
+                0
+            }
+        }
         Wanted::RetiredBy(task) => {
             if (b.state == BlockRecord::RETIRED) & (b.task.0 == task.0) {
                 1

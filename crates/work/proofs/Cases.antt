@@ -5,7 +5,7 @@ use mathlib.Core.Logic.{_≢_}
 use mathlib.Core.Bool.{Bool, true, false, not, _||_}
 use mathlib.Core.List.{List, [], _∷_}
 use lib.ListN.{length}
-use lib.Dec.{eqb}
+use lib.Dec.{ltb, eqb}
 use native.Mathlib.Omega.{arith}
 use borrow.Author.Tests.{le-leb, lt-leb, le-ltb, lt-ltb, eq-eqb, ne-eqb, eqb-true, not-true, not-false}
 use Rattle.numbers.specs.Epochs.{lastEpoch}
@@ -17,13 +17,13 @@ use Rattle.table.specs.declared.records.BlockRecord.{BlockRecord}
 use Rattle.table.specs.declared.records.TaskRecord.{TaskRecord}
 use Rattle.table.specs.declared.records.Phase.{Phase}
 use Rattle.table.specs.declared.records.Phase.the-variants.{Idle, Working, Looked}
-use Rattle.table.proofs.ByPlace.{first-none}
+use Rattle.table.proofs.ByPlace.{first-none, some-count}
 use Rattle.table.proofs.Places.{words-stateOf}
 use Rattle.table.proofs.Sound.{exact}
 use Rattle.rules.specs.Outcome.{Outcome, refusedWhere, checked}
 use Rattle.rules.specs.Effects.{begun, looking, settled, ended, shown, shownIfMade}
 use Rattle.rules.specs.Sweeping.{sweepDone}
-use Rattle.rules.specs.Steps.{noSlot, aboveN, inHand, named, lowestFree, mostMakes, epochAfter, exhausted, madeAt, shownIn, retiredIn, afterRetire, inState, start, startDone, look, lookDone, settle, settleDone, make, makeDone, swap, swapDone, retire, retireDone, sweep, end, endDone, tally}
+use Rattle.rules.specs.Steps.{noSlot, aboveN, madeBy, inHand, named, lowestFree, mostMakes, epochAfter, exhausted, madeAt, shownIn, retiredIn, afterRetire, inState, start, startDone, look, lookDone, settle, settleDone, make, makeDone, swap, swapDone, retire, retireDone, sweep, unshown, end, endDone, tally}
 use Rattle.rules.specs.OnTable.{result, inWords}
 use Rattle.work.specs.Entering.{entering, Inside}
 use Rattle.work.specs.declared.entering.Asked.{Asked}
@@ -47,6 +47,9 @@ retireRest s k b =
     checked s
     (refusedWhere (eqb b 0 || aboveN s b) 6 ∷ refusedWhere (not (inHand k (blockOf s b))) 7 ∷ refusedWhere (named s b) 8 ∷ [])
     (retireDone s k b)
+
+abbrev pub endRest : State → (k : ℕ) → Outcome
+endRest s k = checked s (refusedWhere (unshown s k) 12 ∷ []) (endDone s k)
 
 module _ (s : State) (k : ℕ) where
   pub start-enters : start s k ≡ entering isIdle s k (startDone s k)
@@ -77,7 +80,7 @@ module _ (s : State) (k : ℕ) where
   unfolding sweep entering
   sweep-enters = refl
 
-  pub end-enters : end s k ≡ entering isWorking s k (endDone s k)
+  pub end-enters : end s k ≡ entering isWorking s k (endRest s k)
   unfolding end entering
   end-enters = refl
 
@@ -129,9 +132,19 @@ module _ (t : List ℕ) (k : ℕ) (r : TaskRecord) where
         let differ : eqb (taskOf (stateOf t) k .upper) (stateOf t .epoch) ≡ false = ne-eqb _ _ (λ z. u (ap (λ (y : TaskRow). y .upper) (h .row) ∙ z ∙ sym p)) in
         ap (result 11 0) settled-words ∙ does t k Asked.Looking r h _ _ (settle-enters (stateOf t) k) 11 0 _ (rw differ)
 
-  pub end-done : (h : Inside t k Asked.Working r) (x : TaskRow) (t′ : List ℕ) → x ≡ ended (taskRow r) → t′ ≡ words (withTask (stateOf t) k x)
-      → result 0 0 t′ ≡ inWords (end (stateOf t) k)
-  end-done h x t′ q w = ap (result 0 0) (put-anew ended x t′ (h .row) q w) ∙ does t k Asked.Working r h _ _ (end-enters (stateOf t) k) 0 0 _ refl
+  -- end: so many blocks are made by the task
+  module _ (h : Inside t k Asked.Working r) {n : ℕ} (found : n ≡ count (madeBy k) (stateOf t .blocks)) where
+    counted : unshown (stateOf t) k ≡ ltb 0 n
+    unfolding unshown
+    counted = some-count (madeBy k) (stateOf t .blocks) ∙ ap (ltb 0) (sym found)
+
+    pub end-unshown : sound t ≡ true → 0 < n → result 12 0 t ≡ inWords (end (stateOf t) k)
+    end-unshown e l = own t k Asked.Working r h _ _ (end-enters (stateOf t) k) e 12 (rw (counted, lt-ltb 0 n l))
+
+    pub end-done : n ≤ 0 → (x : TaskRow) (t′ : List ℕ) → x ≡ ended (taskRow r) → t′ ≡ words (withTask (stateOf t) k x)
+        → result 0 0 t′ ≡ inWords (end (stateOf t) k)
+    end-done z x t′ q w =
+        ap (result 0 0) (put-anew ended x t′ (h .row) q w) ∙ does t k Asked.Working r h _ _ (end-enters (stateOf t) k) 0 0 _ (rw (counted, le-ltb 0 n z))
 
 -- whether a make is exhausted, by what the code tests
 module _ (s : State) (makes : ℕ) where

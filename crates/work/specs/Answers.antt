@@ -5,7 +5,7 @@ use Rattle.rules.specs.OnTable.{Result, result}
 use Rattle.work.specs.declared.answers.Answer.{Answer}
 use Rattle.work.specs.declared.answers.Answer.the-variants.{Done, LookAgain, Refused}
 use Rattle.work.specs.declared.answers.Refusal.{Refusal}
-use Rattle.work.specs.declared.answers.Refusal.the-variants.{Unsound, BadSize, NotThere, WrongPhase, NoSlot, NoBlock, WrongBlock, StillNamed, NoneFree, Exhausted}
+use Rattle.work.specs.declared.answers.Refusal.the-variants.{Unsound, BadSize, NotThere, WrongPhase, NoSlot, NoBlock, WrongBlock, StillNamed, NoneFree, Exhausted, Unshown}
 
 abbrev pub refusalKind : Refusal → ℕ
 refusalKind Unsound = 1
@@ -18,6 +18,7 @@ refusalKind WrongBlock = 7
 refusalKind StillNamed = 8
 refusalKind NoneFree = 9
 refusalKind Exhausted = 10
+refusalKind Unshown = 12
 
 abbrev pub kindOf : Answer → ℕ
 kindOf (Done value) = 0

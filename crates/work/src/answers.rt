@@ -24,6 +24,8 @@ pub enum Refusal {
     NoneFree,
     // The task has made all it can, or the epoch would pass the last one.
     Exhausted,
+    // A block that the task made is neither shown nor retired yet.
+    Unshown,
 }
 
 pub enum Answer {
@@ -49,6 +51,7 @@ impl Refusal {
             Refusal::StillNamed => 8,
             Refusal::NoneFree => 9,
             Refusal::Exhausted => 10,
+            Refusal::Unshown => 12,
         }
     }
 }

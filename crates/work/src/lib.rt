@@ -185,6 +185,9 @@ pub fn end(table: &mut [u32], task: Task) -> Answer
     match enter(table, task, Asked::Working) {
         Entry::Out(x) => Answer::Refused(x),
         Entry::At(r) => {
+            if count(table, Wanted::MadeBy(task)) > 0 {
+                return Answer::Refused(Refusal::Unshown);
+            }
             put_task(table, task, ended(r));
             Answer::Done(0)
         }

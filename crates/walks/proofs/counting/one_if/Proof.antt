@@ -17,7 +17,13 @@ returns-3 c = (rw (c .before .before .before .before .before .wanted2 .given .1,
 returns-4 : tie.Need-returns-4
 returns-4 c = (rw (c .before .before .before .before .before .wanted2 .given .1, c .if2 .left), omega arith)
 
+returns-5 : tie.Need-returns-5
+returns-5 c = (rw (c .before .before .before .before .before .wanted3 .given .1, c .if3 .taken), omega arith)
+
+returns-6 : tie.Need-returns-6
+returns-6 c = (rw (c .before .before .before .before .before .wanted3 .given .1, c .if3 .left), omega arith)
+
 pub one-if-spec : {M : Type 1} → statement M
 one-if-spec =
     tie.close
-    (tie.spec (λ c. search needs) (λ c. search needs) returns returns-2 returns-3 returns-4)
+    (tie.spec (λ c. search needs) (λ c. search needs) (λ c. search needs) returns returns-2 returns-3 returns-4 returns-5 returns-6)
