@@ -6,8 +6,8 @@ use native.Mathlib.Nat.{add-zero, add-suc, suc-add, add-assoc}
 use native.Mathlib.Numerals.{add-one}
 use native.Mathlib.Omega.{arith}
 use lib.ListN.{length, getD, take, drop, set, length-append, length-set, length-drop, take-append-drop}
-use lib.Seq.{sets, drop-cons, drop-drop, take-all, getD-append-add, getD-append-seam, set-getD}
-use Rattle.table.specs.State.{TaskRow, BlockRow, State, taskOf, blockOf, slotOf, idleTask, freeBlock, withTask, withBlock, withBlocks, withSlot, withEpoch}
+use lib.Seq.{sets, drop-cons, drop-drop, take-all, getD-append-add, getD-append-seam, set-getD, getD-set-other}
+use Rattle.table.specs.State.{TaskRow, BlockRow, State, taskOf, blockOf, slotOf, idleTask, freeBlock, withInterval, withTask, withBlock, withBlocks, withSlot, withEpoch}
 use Rattle.table.specs.Words.{flat, readFrom, taskWords, taskAt, blockWords, blockAt, slotWords, slotAt, header, words, stateOf, headerWidth, taskWidth, blockWidth, slotWidth, blocksAt, slotsAt, tasksIn, blocksIn, slotsIn, Exact}
 use Rattle.table.proofs.ByPlace.{from-one, put-from-one}
 use Rattle.table.proofs.Flat.{length-flat, put-in, length-read, read-at, read-flat, flat-read}
@@ -220,6 +220,20 @@ module _ (t : List ℕ) (h : Exact t) where
   task-put k at r l e =
       simp (ahead 1, ahead 2, ahead 3, ahead 4, e)
       (ap (λ (u : List ℕ). sets u (headerWidth + taskWidth * k) (taskWords r)) (sym (words-stateOf t h)) ∙ task-stored (stateOf t) k r l)
+
+  -- stores into two words leave the words behind them
+  behind : (at lower upper i : ℕ) → at + 1 < i → set (set (set t at lower) (at + 1) upper) i (getD t i 0) ≡ set (set t at lower) (at + 1) upper
+  behind at lower upper i l =
+      let u = set (set t at lower) (at + 1) upper in
+      let same : getD u i 0 ≡ getD t i 0 = getD-set-other (set t at lower) (at + 1) i upper 0 (λ z. omega arith) ∙ getD-set-other t at i lower 0 (λ z. omega arith) in
+      ap (set u i) (sym same) ∙ set-getD u i 0
+
+  pub interval-put : (k at lower upper : ℕ) → k < length (stateOf t .tasks) → at ≡ headerWidth + taskWidth * k
+      → set (set t at lower) (at + 1) upper ≡ words (withTask (stateOf t) k (withInterval lower upper (taskOf (stateOf t) k)))
+  interval-put k at lower upper l e =
+      sym (rw (behind at lower upper (at + 2) (omega arith), behind at lower upper (at + 3) (omega arith), behind at lower upper (at + 4) (omega arith)))
+      ∙ task-put k at (withInterval lower upper (taskAt t at)) l e
+      ∙ ap (λ (r : TaskRow). words (withTask (stateOf t) k (withInterval lower upper r))) (task-read t k at l e)
 
   pub block-put : (b at : ℕ) (r : BlockRow) → 1 ≤ b → b ≤ length (stateOf t .blocks) → at ≡ blocksAt (tasksIn t) + blockWidth * (b - 1)
       → set (set (set (set t at (r .state)) (at + 1) (r .task)) (at + 2) (r .birth)) (at + 3) (r .retire) ≡ words (withBlock (stateOf t) b r)

@@ -74,6 +74,10 @@ isRetired b = eqb (b .state) 3
 abbrev pub metBy : BlockRow → TaskRow → Bool
 metBy b k = meets (k .lower) (k .upper) (b .birth) (b .retire)
 
+-- a task with another interval
+abbrev pub withInterval : (lower upper : ℕ) → TaskRow → TaskRow
+withInterval lower upper k = record { lower = lower; upper = upper; makes = k .makes; phase = k .phase; candidate = k .candidate }
+
 -- the state with its tasks, a task, its blocks, a block, a slot or the epoch put anew
 abbrev pub withTasks : State → List TaskRow → State
 withTasks s ts = record { tasks = ts; blocks = s .blocks; slots = s .slots; perEpoch = s .perEpoch; perSweep = s .perSweep; epoch = s .epoch }

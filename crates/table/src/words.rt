@@ -12,7 +12,7 @@ ghost use mathlib.Core.Bool.{true};
 ghost use Prim.Native.Nat.{_+_, _-_, _*_, _≤_, _<_};
 ghost use lib.ListN.{length, replicate};
 ghost use Rattle.table.specs.Blank.{blank};
-ghost use Rattle.table.specs.State.{taskOf, blockOf, slotOf, withTask, withBlock, withSlot, withEpoch};
+ghost use Rattle.table.specs.State.{taskOf, blockOf, slotOf, withInterval, withTask, withBlock, withSlot, withEpoch};
 ghost use Rattle.table.specs.Words.{Exact, isExact, sound, stateOf, words, tasksIn, blocksIn, lengthFor, headerWidth, taskWidth, blockWidth, slotWidth, blocksAt, slotsAt};
 ghost use Rattle.table.specs.Records.{taskRow, wordsRow, blockRow};
 
@@ -169,6 +169,16 @@ pub fn put_task(table: &mut [u32], task: Task, r: TaskRecord)
     table[at + 2] = r.makes;
     table[at + 3] = phase.number();
     table[at + 4] = phase.candidate().0;
+}
+
+// A task's interval alone: its other words stay.
+pub fn put_interval(table: &mut [u32], task: Task, lower: Epoch, upper: Epoch)
+    requires { ⌜ Exact (now table) × (task .0 < length (stateOf (now table) .tasks)) ⌝ }
+    ensures { λ _. ⌜ now (table .exit) ≡ words (withTask (stateOf (now (table .entry))) (task .0) (withInterval (lower .0) (upper .0) (taskOf (stateOf (now (table .entry))) (task .0)))) ⌝ }
+{
+    let at = task_place(table, task);
+    table[at] = lower.0;
+    table[at + 1] = upper.0;
 }
 
 fn block_place(table: &[u32], block: Block) -> usize

@@ -1,7 +1,8 @@
 -- `work::opening::put_opened` meets its contract. Assumes nothing.
 use mathlib.Core.Path.{ap, _∙_}
 use mathlib.Core.List.{map}
-use Rattle.table.specs.State.{State, idleTask, withTasks}
+use Rattle.numbers.specs.Epochs.{idleMark}
+use Rattle.table.specs.State.{State, withInterval, withTasks}
 use Rattle.table.specs.Words.{words}
 use Rattle.table.proofs.Places.{says}
 use Rattle.work.proofs.Openings.{opened-is}
@@ -12,7 +13,7 @@ use Rattle.work.proofs.opening.put_opened.Tie as tie
 returns : tie.Need-returns
 returns c =
     c .before .before .put-idle .ensures
-    ∙ ap (λ (u : State). words (withTasks u (map (λ _. idleTask) (u .tasks)))) (says _ _ (c .before .before .before .before .before .before .put-blank .ensures) .1)
+    ∙ ap (λ (u : State). words (withTasks u (map (withInterval idleMark idleMark) (u .tasks)))) (says _ _ (c .before .before .before .before .before .before .put-blank .ensures) .1)
     ∙ ap words (opened-is (c .before .before .before .before .before .before .before .before .before .args .t) (c .before .before .before .before .before .before .before .before .before .args .n) (c .before .before .before .before .before .before .before .before .before .args .p) (c .before .before .before .before .before .before .before .before .before .args .f) (c .before .before .before .before .before .before .before .before .before .args .e))
 
 pub put-opened-spec : {M : Type 1} → statement M
