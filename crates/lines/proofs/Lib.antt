@@ -5,3 +5,4 @@ pub mod Cases
 pub mod Table
 pub mod Texts
 pub mod ReadBack
+pub mod Listed

@@ -42,7 +42,7 @@ pub part-add : (s : List ℕ) (at n m : ℕ) → part s at (n + m) ≡ part s at
 part-add s at n m = rw (take-add n m (drop at s), drop-drop)
 
 -- a part has bytes where the whole has
-below-take : (bound n : ℕ) (s : List ℕ) → 0 < bound → Below bound s → Below bound (take n s)
+pub below-take : (bound n : ℕ) (s : List ℕ) → 0 < bound → Below bound s → Below bound (take n s)
 below-take bound zero s z h i = z
 below-take bound (suc n) [] z h i = z
 below-take bound (suc n) (x ∷ s) z h zero = h 0
@@ -63,6 +63,13 @@ take-read s (suc k) (suc m) at h = rw (take-read s k m (at + 4) (omega arith))
 
 -- a number, and a body, say the bytes that they were read from
 module _ (s : List ℕ) (bytes : Below 256 s) where
+  pub number-below : (n at : ℕ) → number n s at < 256 ^ n
+  number-below zero at = omega arith
+  number-below (suc n) at =
+      let b = bytes (at + n) in
+      let l = number-below n at in
+      omega (arith, pow-suc 256 n)
+
   pub bytes-number : (n at : ℕ) → at + n ≤ length s → bytesOf n (number n s at) ≡ part s at n
   unfolding bytesOf
   bytes-number zero at h = refl
