@@ -1,5 +1,5 @@
 -- A field that the reader accepts, typed as text, is read as a step that is written as the same bytes. Assumes nothing.
-use Prim.Native.Nat.{ℕ, zero, suc, _+_, _<_}
+use Prim.Native.Nat.{ℕ, zero, suc, _+_}
 use mathlib.Core.Path.{_≡_, sym, ap}
 use mathlib.Core.List.{List, [], _∷_}
 use native.Mathlib.Omega.{arith}
@@ -7,7 +7,7 @@ use lib.ListN.{length}
 use lib.Seq.{length-take-le}
 use Rattle.schedule.specs.declared.Numbers.{Numbers}
 use Rattle.schedule.specs.declared.Field.the-variants.{Step}
-use Rattle.schedule.specs.Fields.{number, numbersOf, lengthOf, part, fieldAt}
+use Rattle.schedule.specs.Fields.{number, lengthOf, part, fieldAt}
 use Rattle.schedule.specs.Writing.{fieldOf, countOf, sizeOf, listOf, fiveOf, Outcome}
 use Rattle.schedule.proofs.Bytes.{Below, below-take, below-part, number-below}
 use Rattle.schedule.proofs.Refusals.{fours}

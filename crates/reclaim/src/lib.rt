@@ -3,12 +3,12 @@
 use numbers::Block;
 use numbers::Slot;
 use numbers::Task;
+use storing::opening::put_opened;
 use table::soundness::is_sound;
 use table::soundness::sizes_sound;
 use table::words::length_for;
 use work::answers::Answer;
 use work::answers::Refusal;
-use work::opening::put_opened;
 ghost use mathlib.Core.Path.{_≡_};
 ghost use Rattle.rules.specs.Steps.{start, look, settle, make, swap, retire, sweep, end, tally};
 ghost use Rattle.rules.specs.OnTable.{onTable, openTable};

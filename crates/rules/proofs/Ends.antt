@@ -1,16 +1,15 @@
 -- What an end's answer says of the blocks that its task made and has neither shown nor retired (02, request iii). Assumes nothing.
 use Prim.Native.Nat.{ℕ, zero, suc, _<_}
 use native.Mathlib.Omega.{arith}
-use mathlib.Core.Path.{_≡_, refl, sym, ap, _∙_}
+use mathlib.Core.Path.{_≡_, refl}
 use mathlib.Core.Bool.{Bool, true, false, cond, not}
-use mathlib.Core.List.{List}
-use lib.Dec.{ltb, leb}
+use lib.Dec.{leb}
 use lib.ListN.{length}
 use borrow.Author.Tests.{lt-leb, leb-false, not-false}
 use Rattle.table.specs.Lists.{count}
 use Rattle.table.specs.State.{BlockRow, State, freeBlock, taskOf, blockOf, isWorking}
 use Rattle.table.proofs.ByPlace.{at-all, none-at, some-count, count-none}
-use Rattle.rules.specs.Outcome.{Outcome, answers}
+use Rattle.rules.specs.Outcome.{answers}
 use Rattle.rules.specs.Steps.{madeBy, unshown, end, endChecks, endDone}
 use Rattle.rules.proofs.Checks.{accepted}
 

@@ -10,10 +10,9 @@ use native.Mathlib.Omega.{arith}
 use borrow.Author.Tests.{le-leb, lt-leb, le-ltb, lt-ltb, eq-eqb, ne-eqb, eqb-true, not-true, not-false}
 use Rattle.numbers.specs.Epochs.{lastEpoch}
 use Rattle.table.specs.Lists.{some, count}
-use Rattle.table.specs.State.{TaskRow, BlockRow, State, taskOf, blockOf, slotOf, isIdle, isWorking, isLooking, isFree, withTask, withSlot}
+use Rattle.table.specs.State.{TaskRow, State, taskOf, blockOf, slotOf, isIdle, isWorking, isLooking, isFree, withTask}
 use Rattle.table.specs.Words.{sound, stateOf, words}
-use Rattle.table.specs.Records.{phaseNumber, candidateOf, taskRow, blockRow}
-use Rattle.table.specs.declared.records.BlockRecord.{BlockRecord}
+use Rattle.table.specs.Records.{phaseNumber, candidateOf, taskRow}
 use Rattle.table.specs.declared.records.TaskRecord.{TaskRecord}
 use Rattle.table.specs.declared.records.Phase.{Phase}
 use Rattle.table.specs.declared.records.Phase.the-variants.{Idle, Working, Looked}
@@ -21,7 +20,7 @@ use Rattle.table.proofs.ByPlace.{first-none, some-count}
 use Rattle.table.proofs.Places.{words-stateOf}
 use Rattle.table.proofs.Sound.{exact}
 use Rattle.rules.specs.Outcome.{Outcome, refusedWhere, checked}
-use Rattle.rules.specs.Effects.{begun, looking, settled, ended, shown, shownIfMade}
+use Rattle.rules.specs.Effects.{begun, looking, settled, ended}
 use Rattle.rules.specs.Sweeping.{sweepDone}
 use Rattle.rules.specs.Steps.{noSlot, aboveN, madeBy, inHand, named, lowestFree, mostMakes, epochAfter, exhausted, madeAt, shownIn, retiredIn, afterRetire, inState, start, startDone, look, lookDone, settle, settleDone, make, makeDone, swap, swapDone, retire, retireDone, sweep, unshown, end, endDone, tally}
 use Rattle.rules.specs.OnTable.{result, inWords}
@@ -187,17 +186,6 @@ module _ (t : List ℕ) (k : ℕ) (r : TaskRecord) (h : Inside t k Asked.Working
       make-done l b t′ q w =
           ap₂ (result 0) q (w ∙ ap₂ (λ (c d : ℕ). words (madeAt (stateOf t) k c d)) q (p ∙ ap (epochAfter (stateOf t)) makes-is))
           ∙ does t k Asked.Working r h _ _ (make-enters (stateOf t) k) 0 _ _ (rw (one-free f, in-table (not-yet (stateOf t) _ n birth p l)))
-
--- what becomes of a block that a slot gets, by the record that the code read; block 0 is none
-module _ (b : BlockRecord) (x : BlockRow) (q : blockRow b ≡ x) where
-  pub shown-made : (y : BlockRow) → b .state ≡ 1 → y ≡ shown (blockRow b) → y ≡ shownIfMade x
-  shown-made y p e = e ∙ rw (← q, p)
-
-  pub shown-other : b .state ≢ 1 → x ≡ shownIfMade x
-  shown-other n = rw (← q, ne-eqb (b .state) 1 n)
-
-pub shown-none : (s : State) (p b : ℕ) → b ≡ 0 → withSlot s p b ≡ shownIn s p b
-shown-none s p b z = rw z
 
 -- swap: no such slot; no such block; the new block is not in hand; the slot holds another; done
 module _ (t : List ℕ) (k : ℕ) (r : TaskRecord) (h : Inside t k Asked.Working r) (p old new : ℕ) where

@@ -1,10 +1,6 @@
 // The work of the nine steps that are not open, on a table that is known to be sound: each leaves what its rule says.
 pub mod answers;
 pub mod entering;
-mod making;
-pub mod opening;
-mod retiring;
-mod showing;
 
 use answers::Answer;
 use answers::Refusal;
@@ -15,16 +11,16 @@ use effects::settled;
 use entering::Asked;
 use entering::Entry;
 use entering::enter;
-use making::epoch_after;
-use making::put_made;
 use numbers::Block;
 use numbers::Epoch;
 use numbers::Slot;
 use numbers::Task;
-use retiring::put_retired;
-use showing::in_hand;
-use showing::may_show;
-use showing::put_shown;
+use storing::making::epoch_after;
+use storing::making::put_made;
+use storing::retiring::put_retired;
+use storing::showing::in_hand;
+use storing::showing::may_show;
+use storing::showing::put_shown;
 use table::words::block_at;
 use table::words::blocks;
 use table::words::epoch;

@@ -1,6 +1,5 @@
 -- `list::print_numbers` is safe and ends. Assumes nothing.
 use Prim.Native.Nat.{_-_, _≤_}
-use native.Mathlib.Omega.{arith}
 use borrow.Author.Needs.{needs}
 use Rattle.list.proofs.print_numbers.Statement.{statement}
 use Rattle.list.proofs.print_numbers.Tie as tie

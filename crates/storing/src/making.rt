@@ -26,7 +26,7 @@ fn raises(f: u32, makes: u32) -> bool
 }
 
 // The epoch after a make by a task that has made so many.
-pub(crate) fn epoch_after(table: &[u32], makes: u32) -> Epoch
+pub fn epoch_after(table: &[u32], makes: u32) -> Epoch
     requires { ⌜ Exact (now table) × (1 ≤ stateOf (now table) .perEpoch) × (stateOf (now table) .epoch < 4294967295) × (makes < mostMakes) ⌝ }
     ensures { λ r. ⌜ r .0 ≡ epochAfter (stateOf (now (table .entry))) makes ⌝ }
 {
@@ -38,7 +38,7 @@ pub(crate) fn epoch_after(table: &[u32], makes: u32) -> Epoch
     }
 }
 
-pub(crate) fn put_made(table: &mut [u32], task: Task, r: TaskRecord, block: Block, birth: Epoch)
+pub fn put_made(table: &mut [u32], task: Task, r: TaskRecord, block: Block, birth: Epoch)
     requires { ⌜ Exact (now table) × (task .0 < length (stateOf (now table) .tasks)) × (taskRow r ≡ taskOf (stateOf (now table)) (task .0)) × (r .makes < mostMakes) × (1 ≤ block .0) × (block .0 ≤ length (stateOf (now table) .blocks)) ⌝ }
     ensures { λ _. ⌜ now (table .exit) ≡ words (madeAt (stateOf (now (table .entry))) (task .0) (block .0) (birth .0)) ⌝ }
 {

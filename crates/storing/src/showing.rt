@@ -19,14 +19,14 @@ ghost use Rattle.rules.specs.Effects.{shownIfMade};
 ghost use Rattle.rules.specs.Steps.{inHand, shownIn};
 
 // A shown block, or one that the task made.
-pub(crate) fn in_hand(task: Task, b: BlockRecord) -> bool
+pub fn in_hand(task: Task, b: BlockRecord) -> bool
     ensures { λ r. ⌜ r ≡ inHand (task .0) (blockRow b) ⌝ }
 {
     (b.state == BlockRecord::SHOWN) | (b.state == BlockRecord::MADE) & (b.task.0 == task.0)
 }
 
 // Whether a swap may put the block into a slot; block 0 empties it.
-pub(crate) fn may_show(table: &[u32], task: Task, block: Block) -> bool
+pub fn may_show(table: &[u32], task: Task, block: Block) -> bool
     requires { ⌜ Exact (now table) × (block .0 ≤ length (stateOf (now table) .blocks)) ⌝ }
     ensures { λ r. ⌜ r ≡ eqb (block .0) 0 || inHand (task .0) (blockOf (stateOf (now (table .entry))) (block .0)) ⌝ }
 {
@@ -48,7 +48,7 @@ fn show(table: &mut [u32], block: Block)
 }
 
 // The slot gets the block, which is shown from now on.
-pub(crate) fn put_shown(table: &mut [u32], slot: Slot, block: Block)
+pub fn put_shown(table: &mut [u32], slot: Slot, block: Block)
     requires { ⌜ Exact (now table) × (slot .0 < length (stateOf (now table) .slots)) × (block .0 ≤ length (stateOf (now table) .blocks)) ⌝ }
     ensures { λ _. ⌜ now (table .exit) ≡ words (shownIn (stateOf (now (table .entry))) (slot .0) (block .0)) ⌝ }
 {

@@ -5,10 +5,10 @@ use Rattle.numbers.specs.Epochs.{idleMark}
 use Rattle.table.specs.State.{State, withInterval, withTasks}
 use Rattle.table.specs.Words.{words}
 use Rattle.table.proofs.Places.{says}
-use Rattle.work.proofs.Openings.{opened-is}
+use Rattle.storing.proofs.Openings.{opened-is}
 use borrow.Author.Needs.{needs}
-use Rattle.work.proofs.opening.put_opened.Statement.{statement}
-use Rattle.work.proofs.opening.put_opened.Tie as tie
+use Rattle.storing.proofs.opening.put_opened.Statement.{statement}
+use Rattle.storing.proofs.opening.put_opened.Tie as tie
 
 returns : tie.Need-returns
 returns c =

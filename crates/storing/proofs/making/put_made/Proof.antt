@@ -7,8 +7,8 @@ use Rattle.table.specs.Words.{stateOf, words}
 use Rattle.table.proofs.Places.{says}
 use Rattle.rules.specs.Effects.{counted}
 use borrow.Author.Needs.{needs}
-use Rattle.work.proofs.making.put_made.Statement.{statement}
-use Rattle.work.proofs.making.put_made.Tie as tie
+use Rattle.storing.proofs.making.put_made.Statement.{statement}
+use Rattle.storing.proofs.making.put_made.Tie as tie
 
 -- the state once the epoch is put, and once the task is
 later : (c : tie.After-put-epoch) → stateOf (c .put-epoch .last .0) ≡ withEpoch (stateOf (c .before .before .before .args .table .now)) (c .before .before .before .args .birth .0)

@@ -7,10 +7,10 @@ use Rattle.table.specs.State.{State, blockOf, withBlock, withSlot}
 use Rattle.table.specs.Words.{stateOf, words}
 use Rattle.table.proofs.Places.{says}
 use Rattle.rules.specs.Effects.{shownIfMade}
-use Rattle.work.proofs.Cases.{shown-none}
+use Rattle.storing.proofs.Shown.{shown-none}
 use borrow.Author.Needs.{needs}
-use Rattle.work.proofs.showing.put_shown.Statement.{statement}
-use Rattle.work.proofs.showing.put_shown.Tie as tie
+use Rattle.storing.proofs.showing.put_shown.Statement.{statement}
+use Rattle.storing.proofs.showing.put_shown.Tie as tie
 
 -- the state once the slot is put
 state : (c : tie.After-put-slot) → stateOf (c .put-slot .last .0) ≡ withSlot (stateOf (c .before .before .before .args .table .now)) (c .before .before .before .args .slot .0) (c .before .before .before .args .block .0)

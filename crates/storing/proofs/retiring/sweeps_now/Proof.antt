@@ -2,8 +2,8 @@
 use mathlib.Core.Path.{ap₂}
 use Rattle.rules.specs.Steps.{divisible, retiredCount}
 use borrow.Author.Needs.{needs}
-use Rattle.work.proofs.retiring.sweeps_now.Statement.{statement}
-use Rattle.work.proofs.retiring.sweeps_now.Tie as tie
+use Rattle.storing.proofs.retiring.sweeps_now.Statement.{statement}
+use Rattle.storing.proofs.retiring.sweeps_now.Tie as tie
 
 returns : tie.Need-returns
 unfolding retiredCount

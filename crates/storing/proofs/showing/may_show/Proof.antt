@@ -3,8 +3,8 @@ use mathlib.Core.Path.{ap, _∙_}
 use borrow.Author.Tests.{eq-eqb, ne-eqb}
 use Rattle.rules.specs.Steps.{inHand}
 use borrow.Author.Needs.{needs}
-use Rattle.work.proofs.showing.may_show.Statement.{statement}
-use Rattle.work.proofs.showing.may_show.Tie as tie
+use Rattle.storing.proofs.showing.may_show.Statement.{statement}
+use Rattle.storing.proofs.showing.may_show.Tie as tie
 
 pub may-show-spec : {M : Type 1} → statement M
 may-show-spec =

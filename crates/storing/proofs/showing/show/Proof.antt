@@ -3,10 +3,10 @@ use mathlib.Core.Path.{ap, _∙_}
 use Rattle.table.specs.State.{BlockRow, withBlock}
 use Rattle.table.specs.Words.{stateOf, words}
 use Rattle.table.proofs.Places.{block-same}
-use Rattle.work.proofs.Cases.{shown-made, shown-other}
+use Rattle.storing.proofs.Shown.{shown-made, shown-other}
 use borrow.Author.Needs.{needs}
-use Rattle.work.proofs.showing.show.Statement.{statement}
-use Rattle.work.proofs.showing.show.Tie as tie
+use Rattle.storing.proofs.showing.show.Statement.{statement}
+use Rattle.storing.proofs.showing.show.Tie as tie
 
 returns : tie.Need-returns
 returns c =

@@ -4,8 +4,8 @@ use mathlib.Core.Path.{_≡_, sym, ap, _∙_}
 use Rattle.table.specs.Words.{stateOf}
 use Rattle.rules.specs.Steps.{raises}
 use borrow.Author.Needs.{needs}
-use Rattle.work.proofs.making.epoch_after.Statement.{statement}
-use Rattle.work.proofs.making.epoch_after.Tie as tie
+use Rattle.storing.proofs.making.epoch_after.Statement.{statement}
+use Rattle.storing.proofs.making.epoch_after.Tie as tie
 
 -- what the test said, of the state
 said : (c : tie.After-raises) → raises (stateOf (c .before .before .before .before .args .table .now) .perEpoch) (c .before .before .before .before .args .makes) ≡ c .raises .result

@@ -9,8 +9,8 @@ use Rattle.rules.specs.Sweeping.{freedBy, swept}
 use Rattle.rules.specs.Steps.{retiredIn, sweepsNow}
 use Rattle.rules.specs.OnTable.{result}
 use borrow.Author.Needs.{needs}
-use Rattle.work.proofs.retiring.put_retired.Statement.{statement}
-use Rattle.work.proofs.retiring.put_retired.Tie as tie
+use Rattle.storing.proofs.retiring.put_retired.Statement.{statement}
+use Rattle.storing.proofs.retiring.put_retired.Tie as tie
 
 -- the table and its state once the block is retired
 put : (c : tie.After-put-block) → c .put-block .last .0 ≡ words (retiredIn (stateOf (c .before .before .before .before .before .before .before .before .args .table .now)) (c .before .before .before .before .before .before .before .before .args .task .0) (c .before .before .before .before .before .before .before .before .args .block .0))

@@ -14,9 +14,7 @@ ghost use Prim.Native.Nat.{_≤_};
 ghost use lib.ListN.{length};
 ghost use Rattle.table.specs.Words.{Exact, stateOf};
 ghost use Rattle.rules.specs.Steps.{sweepsNow, retiredIn, afterRetire};
-ghost use Rattle.rules.specs.OnTable.{inWords};
-ghost use Rattle.work.specs.Answers.{told};
-ghost use Rattle.work.specs.declared.answers.Answer.the-variants.{Done};
+ghost use Rattle.rules.specs.OnTable.{result, inWords};
 
 // Whether the number of blocks retired by the task is divisible by E.
 fn sweeps_now(table: &[u32], task: Task) -> bool
@@ -27,9 +25,9 @@ fn sweeps_now(table: &[u32], task: Task) -> bool
 }
 
 // Retires the block, sweeps where that follows, and returns how many blocks were freed.
-pub(crate) fn put_retired(table: &mut [u32], task: Task, block: Block) -> u32
+pub fn put_retired(table: &mut [u32], task: Task, block: Block) -> u32
     requires { ⌜ Exact (now table) × (1 ≤ block .0) × (block .0 ≤ length (stateOf (now table) .blocks)) × (1 ≤ stateOf (now table) .perSweep) ⌝ }
-    ensures { λ r. ⌜ told (Done r) (now (table .exit)) ≡ inWords (afterRetire (retiredIn (stateOf (now (table .entry))) (task .0) (block .0)) (task .0)) ⌝ }
+    ensures { λ r. ⌜ result 0 r (now (table .exit)) ≡ inWords (afterRetire (retiredIn (stateOf (now (table .entry))) (task .0) (block .0)) (task .0)) ⌝ }
 {
     let now = epoch(table);
     let b = block_at(table, block);
