@@ -3,9 +3,9 @@
 use numbers::Block;
 use numbers::Slot;
 use numbers::Task;
+use soundness::is_sound;
+use soundness::sizes_sound;
 use storing::opening::put_opened;
-use table::soundness::is_sound;
-use table::soundness::sizes_sound;
 use table::words::length_for;
 use work::answers::Answer;
 use work::answers::Refusal;

@@ -4,7 +4,7 @@ use numbers::Block;
 use numbers::Slot;
 use numbers::Task;
 use schedule::Numbers;
-use table::soundness::sizes_sound;
+use soundness::sizes_sound;
 use table::words::length_for;
 use work::answers::Answer;
 use work::answers::Refusal;

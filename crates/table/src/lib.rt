@@ -1,4 +1,3 @@
-// The lent table: its records, its words, and whether it is sound.
+// The lent table: its records and its words.
 pub mod records;
-pub mod soundness;
 pub mod words;

@@ -2,7 +2,7 @@
 use runner::carry_out;
 use schedule::Field;
 use schedule::field_at;
-use table::soundness::is_sound;
+use soundness::is_sound;
 ghost use Prim.Native.Nat.{_≤_};
 
 // 2 where the table was walked and is sound, else 1.

@@ -1,19 +1,19 @@
--- `table::soundness::tasks_sound` meets its contract: ok, and the tasks from i on, decide. Assumes nothing.
+-- `soundness::tasks_sound` meets its contract: ok, and the tasks from i on, decide. Assumes nothing.
 use Prim.Native.Nat.{ℕ, _≤_, _-_}
 use mathlib.Core.Path.{_≡_, sym, _∙_, refl}
 use mathlib.Core.Bool.{Bool, _&&_}
 use mathlib.Core.List.{List}
 use native.Mathlib.Omega.{arith}
 use lib.ListN.{length, drop}
 use Rattle.table.specs.Lists.{all}
 use Rattle.table.specs.State.{TaskRow, idleTask}
 use Rattle.table.specs.Soundness.{soundTask, soundTasks}
 use Rattle.table.specs.Words.{stateOf}
 use Rattle.table.proofs.Tests.{ap₃}
 use Rattle.table.proofs.Along.{all-step, all-done}
 use borrow.Author.Needs.{needs}
-use Rattle.table.proofs.soundness.tasks_sound.Statement.{statement}
-use Rattle.table.proofs.soundness.tasks_sound.Tie as tie
+use Rattle.soundness.proofs.tasks_sound.Statement.{statement}
+use Rattle.soundness.proofs.tasks_sound.Tie as tie
 
 -- the test that each task has to pass
 abbrev test : List ℕ → TaskRow → Bool

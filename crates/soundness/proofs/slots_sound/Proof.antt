@@ -1,16 +1,16 @@
--- `table::soundness::slots_sound` meets its contract: ok, and the slots from i on, decide. Assumes nothing.
+-- `soundness::slots_sound` meets its contract: ok, and the slots from i on, decide. Assumes nothing.
 use Prim.Native.Nat.{_≤_, _-_}
 use mathlib.Core.Path.{_≡_, sym, _∙_, refl}
 use mathlib.Core.Bool.{_&&_}
 use native.Mathlib.Omega.{arith}
 use lib.ListN.{drop}
 use Rattle.table.specs.Lists.{all}
 use Rattle.table.specs.Soundness.{soundSlot, soundSlots}
 use Rattle.table.specs.Words.{stateOf}
 use Rattle.table.proofs.Along.{all-step, all-done}
 use borrow.Author.Needs.{needs}
-use Rattle.table.proofs.soundness.slots_sound.Statement.{statement}
-use Rattle.table.proofs.soundness.slots_sound.Tie as tie
+use Rattle.soundness.proofs.slots_sound.Statement.{statement}
+use Rattle.soundness.proofs.slots_sound.Tie as tie
 
 abbrev Inv-loop : tie.InvT-loop
 Inv-loop table n ok₀ i₀ ok i = (i ≤ n) × (soundSlots (stateOf table) ≡ ok && all (soundSlot (stateOf table)) (drop i (stateOf table .slots)))

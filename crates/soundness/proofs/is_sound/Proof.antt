@@ -1,12 +1,12 @@
--- `table::soundness::is_sound` meets its contract. Assumes nothing.
+-- `soundness::is_sound` meets its contract. Assumes nothing.
 use mathlib.Core.Path.{_≡_, sym, _∙_}
 use mathlib.Core.Bool.{true}
 use borrow.Author.Tests.{eqb-true, not-false, not-true}
 use Rattle.table.specs.Soundness.{soundState}
 use Rattle.table.specs.Words.{isExact, sound}
 use borrow.Author.Needs.{needs}
-use Rattle.table.proofs.soundness.is_sound.Statement.{statement}
-use Rattle.table.proofs.soundness.is_sound.Tie as tie
+use Rattle.soundness.proofs.is_sound.Statement.{statement}
+use Rattle.soundness.proofs.is_sound.Tie as tie
 
 returns : tie.Need-returns
 unfolding sound

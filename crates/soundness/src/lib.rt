@@ -1,27 +1,27 @@
 // Is the table sound: its length, its numbers, and each task, block and slot.
-use crate::records::BlockRecord;
-use crate::records::TaskWords;
-use crate::words::block_at;
-use crate::words::blocks;
-use crate::words::epoch;
-use crate::words::is_exact;
-use crate::words::per_epoch;
-use crate::words::per_sweep;
-use crate::words::slot_at;
-use crate::words::slots;
-use crate::words::task_words;
-use crate::words::tasks;
 use numbers::Block;
 use numbers::Epoch;
 use numbers::Slot;
 use numbers::Task;
+use table::records::BlockRecord;
+use table::records::TaskWords;
+use table::words::block_at;
+use table::words::blocks;
+use table::words::epoch;
+use table::words::is_exact;
+use table::words::per_epoch;
+use table::words::per_sweep;
+use table::words::slot_at;
+use table::words::slots;
+use table::words::task_words;
+use table::words::tasks;
 ghost use mathlib.Core.Path.{_≡_};
 ghost use Prim.Native.Nat.{_<_};
 ghost use lib.ListN.{length};
 ghost use Rattle.table.specs.State.{slotOf};
 ghost use Rattle.table.specs.Soundness.{sized, soundTask, soundBlock, soundSlot, soundNumbers, soundTasks, soundBlocks, soundSlots};
 ghost use Rattle.table.specs.Words.{Exact, sound, stateOf};
 ghost use Rattle.table.specs.Records.{wordsRow, blockRow};
 
 // The sizes, makes per epoch and retirements per sweep are within their limits.
 pub fn sizes_sound(t: u32, n: u32, p: u32, f: u32, e: u32) -> bool

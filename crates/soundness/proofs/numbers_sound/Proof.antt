@@ -1,8 +1,8 @@
--- `table::soundness::numbers_sound` meets its contract. Assumes nothing.
+-- `soundness::numbers_sound` meets its contract. Assumes nothing.
 use Rattle.table.specs.Soundness.{soundNumbers}
 use borrow.Author.Needs.{needs}
-use Rattle.table.proofs.soundness.numbers_sound.Statement.{statement}
-use Rattle.table.proofs.soundness.numbers_sound.Tie as tie
+use Rattle.soundness.proofs.numbers_sound.Statement.{statement}
+use Rattle.soundness.proofs.numbers_sound.Tie as tie
 
 returns : tie.Need-returns
 unfolding soundNumbers

@@ -1,14 +1,14 @@
--- `table::soundness::slot_sound` meets its contract: a number above N reads as a free block. Assumes nothing.
+-- `soundness::slot_sound` meets its contract: a number above N reads as a free block. Assumes nothing.
 use mathlib.Core.Path.{_≡_}
 use mathlib.Core.Bool.{false}
 use native.Mathlib.Omega.{arith}
 use borrow.Author.Tests.{ne-eqb}
 use Rattle.table.specs.State.{isShown, blockOf}
 use Rattle.table.specs.Words.{stateOf}
 use Rattle.table.proofs.Sound.{numbered}
 use borrow.Author.Needs.{needs}
-use Rattle.table.proofs.soundness.slot_sound.Statement.{statement}
-use Rattle.table.proofs.soundness.slot_sound.Tie as tie
+use Rattle.soundness.proofs.slot_sound.Statement.{statement}
+use Rattle.soundness.proofs.slot_sound.Tie as tie
 
 returns : tie.Need-returns
 returns c = rw (← c .before .before .slot-at .ensures, c .if1 .taken)
