@@ -5,12 +5,10 @@ use libc::STDIN_FILENO;
 use libc::STDOUT_FILENO;
 use lines::names::put_name;
 use schedule::Field;
+use schedule::MOST_BYTES;
 use schedule::Numbers;
 use schedule::count_of;
 use schedule::field_at;
-
-// A schedule has at most so many bytes.
-const MOST_BYTES: usize = 65536;
 
 fn print_name(tag: u8) {
     let mut name = [0u8; 6];

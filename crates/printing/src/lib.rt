@@ -2,10 +2,8 @@
 use libc::STDOUT_FILENO;
 use runner::carry_out;
 use schedule::Field;
+use schedule::MOST_BYTES;
 use schedule::field_at;
-
-// A schedule has at most so many bytes.
-const MOST_BYTES: usize = 65536;
 
 // The kind of a schedule that has more.
 const TOO_LONG: u64 = 24;

@@ -30,6 +30,9 @@ pub enum Field {
     End,
 }
 
+// A schedule has at most so many bytes.
+pub const MOST_BYTES: usize = 65536;
+
 // A tag byte and a two-byte length come before a body.
 const HEAD: usize = 3;
 

@@ -5,7 +5,12 @@ use libc::STDERR_FILENO;
 use libc::STDIN_FILENO;
 use libc::STDOUT_FILENO;
 use lines::Line;
+use lines::NOT_A_NUMBER;
+use lines::TOO_FEW_NUMBERS;
+use lines::TOO_LARGE;
+use lines::UNKNOWN_STEP;
 use lines::read_line;
+use schedule::MOST_BYTES;
 use schedule::Numbers;
 use schedule::count_of;
 use schedule::writing::write_field;
@@ -32,13 +37,13 @@ fn complain(number: u64, what: &[u8]) {
     io::write_all(STDERR_FILENO, b"\n");
 }
 
-// Tells what is wrong with a line, by crate lines' numbers for it.
+// Tells what is wrong with a line.
 fn complain_of(number: u64, what: u32) {
     match what {
-        1 => complain(number, b"unknown step"),
-        2 => complain(number, b"not a number"),
-        3 => complain(number, b"a number above 4294967295"),
-        4 => complain(number, b"too few numbers"),
+        UNKNOWN_STEP => complain(number, b"unknown step"),
+        NOT_A_NUMBER => complain(number, b"not a number"),
+        TOO_LARGE => complain(number, b"a number above 4294967295"),
+        TOO_FEW_NUMBERS => complain(number, b"too few numbers"),
         _ => complain(number, b"too many numbers"),
     }
 }
@@ -120,7 +125,7 @@ fn take_lines(schedule: &mut [u8], text: &[u8]) -> Progress
 
 // Writes the schedule of a text, if all its lines are right.
 fn write_schedule(text: &[u8]) {
-    let mut schedule = [0u8; 65536];
+    let mut schedule = [0u8; MOST_BYTES];
     let done = take_lines(&mut schedule, text);
     if done.right {
         let used = done.used;
