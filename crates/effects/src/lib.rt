@@ -1,4 +1,6 @@
 // What becomes of a task's and of a block's record by a step, by the names that the rules use.
+#![tactic(auto)]
+
 ghost use Rattle.std.specs.Prelude.{◌≡◌, ◌<◌};
 ghost use Rattle.table.specs.Records.{candidate_of, task_row, block_row};
 ghost use Rattle.rules.specs.Effects.{begun, looking, settled, counted, ended, made, shown, retired, freed};

@@ -1,5 +1,7 @@
 // The ten steps for C: the table as a pointer and its length in words, then the numbers in a schedule's order. Each answers
 // kind × 2^32 + value. And zone records: the minutes of one, and the characters of the Fortran ZONE argument. And a field of a schedule, written.
+#![tactic(auto)]
+
 ghost use Rattle.std.specs.Prelude.{◌≡◌, ◌+◌, ◌*◌, ◌<◌};
 ghost use Rattle.rules.specs.Steps.{start, look, settle, make, swap, retire, sweep, end, tally};
 ghost use Rattle.rules.specs.OnTable.{on_table, open_table};

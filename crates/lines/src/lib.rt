@@ -1,4 +1,6 @@
 // The reading of one line of a schedule typed as text: a step's name and its numbers.
+#![tactic(auto)]
+
 ghost use Rattle.std.specs.Prelude.{◌≡◌};
 ghost use Rattle.lines.specs.Lines.{text_of, line_of};
 
@@ -12,7 +14,7 @@ mod values;
 mod words;
 
 // What a line says: nothing, a step and its numbers (0 for those that it has not), or what is wrong with it.
-#[derive(Drop)]
+#[derive(Clone, Copy)]
 pub enum Line {
     Blank,
     Step { tag: u8, numbers: Numbers },

@@ -7,14 +7,14 @@ use crate::{NOT_A_NUMBER, TOO_FEW_NUMBERS, TOO_LARGE, TOO_MANY_NUMBERS};
 use schedule::Numbers;
 
 // A word's number, or what is wrong with the word.
-#[derive(Drop)]
+#[derive(Clone, Copy)]
 pub enum OneNumber {
     Value(u32),
     NoValue(u32),
 }
 
 // A step's numbers, or what is wrong with them.
-#[derive(Drop)]
+#[derive(Clone, Copy)]
 pub enum AllNumbers {
     Are(Numbers),
     NotAll(u32),

@@ -3,7 +3,7 @@ ghost use Rattle.std.specs.Prelude.{◌≡◌, ◌≤◌, length};
 ghost use Rattle.lines.specs.Words.{front, take_while, drop_while, is_blank, in_run, before_comment, first_word, after_word};
 
 // The kinds of runs: blanks, a word, what is before a comment, and digits.
-#[derive(Drop)]
+#[derive(Clone, Copy)]
 pub enum Run {
     Blanks,
     Word,

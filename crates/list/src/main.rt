@@ -1,5 +1,7 @@
 // Reads a schedule from standard input and prints it as text, one step a line by its name and numbers. The first field that is none is told
 // on standard error by its place. A read error counts as the end of what was read.
+#![tactic(auto)]
+
 use libc::{STDERR_FILENO, STDIN_FILENO, STDOUT_FILENO};
 use lines::names::put_name;
 use schedule::{Field, MOST_BYTES, Numbers, count_of, field_at};

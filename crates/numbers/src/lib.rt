@@ -1,21 +1,23 @@
 // The numbers of the table, each kind of its own type, so that a call cannot take one for another.
+#![tactic(auto)]
+
 ghost use Rattle.std.specs.Prelude.{◌≡◌};
 ghost use Rattle.numbers.specs.Epochs.{meets};
 
 // A moment: what births, retirements and intervals are counted in.
-#[derive(Drop)]
+#[derive(Clone, Copy)]
 pub struct Epoch(pub u32);
 
 // Tasks count from 0.
-#[derive(Drop)]
+#[derive(Clone, Copy)]
 pub struct Task(pub u32);
 
 // Blocks count from 1; block 0 means none.
-#[derive(Drop)]
+#[derive(Clone, Copy)]
 pub struct Block(pub u32);
 
 // Slots count from 0.
-#[derive(Drop)]
+#[derive(Clone, Copy)]
 pub struct Slot(pub u32);
 
 impl Epoch {

@@ -1,4 +1,6 @@
 // Prints the run of a schedule: a header, then one line for each field.
+#![tactic(auto)]
+
 use libc::STDOUT_FILENO;
 use runner::carry_out;
 use schedule::{Field, MOST_BYTES, field_at};

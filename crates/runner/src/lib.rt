@@ -1,5 +1,7 @@
 // One field carried out on a buffer, of which an accepted open fixes how much is the table. The table is kept sound by proof, so that
 // no step walks it to see whether it is.
+#![tactic(auto)]
+
 ghost use Rattle.std.specs.Prelude.{◌≡◌, true, cond, ◌≤◌};
 ghost use Rattle.table.specs.Soundness.{sized};
 ghost use Rattle.table.specs.Words.{sound, state_of, length_for};
@@ -16,7 +18,7 @@ use table::words::length_for;
 use work::answers::{Answer, Refusal};
 
 // What a field answered, and how many of the buffer's first words are the table after it: 0 before an accepted open.
-#[derive(Drop)]
+#[derive(Clone, Copy)]
 pub struct Ran {
     pub answer: Answer,
     pub used: usize,

@@ -1,4 +1,6 @@
 // How many retired blocks one operation may hold back, so that a table can be sized; and demand 3, in proofs/.
+#![tactic(auto)]
+
 ghost use Rattle.std.specs.Prelude.{◌≡◌, ◌-◌, ◌*◌};
 ghost use Rattle.rules.specs.Terms.{limit};
 ghost use Rattle.safety.specs.Limits.{Says};
@@ -6,7 +8,7 @@ ghost use Rattle.safety.specs.Limits.{Says};
 use numbers::Epoch;
 
 // The limit, or that it is more than a word holds.
-#[derive(Drop)]
+#[derive(Clone, Copy)]
 pub enum Bound {
     Blocks(u32),
     TooLarge,

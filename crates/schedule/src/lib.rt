@@ -1,4 +1,6 @@
 // The one-field reader of schedule files: what stands at a place of a schedule, and the numbers of a body.
+#![tactic(auto)]
+
 pub mod writing;
 
 ghost use Rattle.std.specs.Prelude.{◌≡◌, ◌+◌, ◌*◌, ◌≤◌, ◌<◌, length, get_or};
@@ -6,7 +8,7 @@ ghost use Rattle.schedule.specs.Writing.{count_of};
 ghost use Rattle.schedule.specs.Fields.{number, numbers_of, length_of, fault_kind, field_at};
 
 // The numbers of a body in their order; 0 for those that it has not.
-#[derive(Drop)]
+#[derive(Clone, Copy)]
 pub struct Numbers {
     pub first: u32,
     pub second: u32,
@@ -16,7 +18,7 @@ pub struct Numbers {
 }
 
 // What stands at a place: a whole field and the place after it, a fault with its kind and the tag byte, or the end.
-#[derive(Drop)]
+#[derive(Clone, Copy)]
 pub enum Field {
     Step {
         tag: u8,

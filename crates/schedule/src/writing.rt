@@ -8,7 +8,7 @@ use crate::{HEAD, NUMBER, UNKNOWN_TAG, count_of, length_of};
 
 // What a write answers: kind 0 and the place after the field, or a refusal's kind and 0.
 #[repr(C)]
-#[derive(Drop)]
+#[derive(Clone, Copy)]
 pub struct Written {
     pub kind: u32,
     pub value: usize,

@@ -1,4 +1,6 @@
 // Is the table sound: its length, its numbers, and each task, block and slot.
+#![tactic(auto)]
+
 ghost use Rattle.std.specs.Prelude.{◌≡◌, ◌<◌, length};
 ghost use Rattle.table.specs.State.{slot_of};
 ghost use Rattle.table.specs.Soundness.{sized, sound_task, sound_block, sound_slot, sound_numbers, sound_tasks, sound_blocks, sound_slots};

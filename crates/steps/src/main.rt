@@ -1,4 +1,6 @@
 // Reads a schedule from standard input and prints its run. A read error counts as the end of what was read.
+#![tactic(auto)]
+
 use libc::STDIN_FILENO;
 use printing::print_run;
 

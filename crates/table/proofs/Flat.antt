@@ -68,9 +68,12 @@ module _ {A : Type 0} (f : A → List ℕ) (g : List ℕ → ℕ → A) (w : ℕ
       (p : List ℕ) (xs : List A) (q : List ℕ) → read_from g w (p ++ (flat f xs ++ q)) (length p) (length xs) ≡ xs
   read_flat wide back p [] q = refl
   read_flat wide back p (x ∷ xs) q =
+      let whole : p ++ (flat f (x ∷ xs) ++ q) ≡ p ++ (f x ++ (flat f xs ++ q)) = ap (λ (l : List ℕ). p ++ l) (append_assoc (f x) (flat f xs) q) in
       let e : length p + w ≡ length (p ++ f x) = omega (arith, length-append p (f x), wide x) in
-      rw (append_assoc (f x) (flat f xs) q, back p x (flat f xs ++ q))
-      (ap (λ (l : List A). x ∷ l) (rw (e, ← append_assoc p (f x) (flat f xs ++ q)) (read_flat wide back (p ++ f x) xs q)))
+      let first : g (p ++ (flat f (x ∷ xs) ++ q)) (length p) ≡ x = rw whole (back p x (flat f xs ++ q)) in
+      let rest : read_from g w (p ++ (flat f (x ∷ xs) ++ q)) (length p + w) (length xs) ≡ xs =
+          rw (whole, e, ← append_assoc p (f x) (flat f xs ++ q)) (read_flat wide back (p ++ f x) xs q) in
+      rw first (ap (λ (l : List A). x ∷ l) rest)
 
   -- what is read says the words it was read from
   pub flat_read : (t : List ℕ) (forth : (at : ℕ) → at + w ≤ length t → f (g t at) ≡ take w (drop at t))

@@ -5,14 +5,14 @@ ghost use Rattle.table.specs.Records.{phase_number, candidate_of};
 use numbers::{Block, Epoch, Task};
 
 // A task is idle, or at work, or at work with a look outstanding, which carries the candidate.
-#[derive(Drop)]
+#[derive(Clone, Copy)]
 pub enum Phase {
     Idle,
     Working,
     Looked(Block),
 }
 
-#[derive(Drop)]
+#[derive(Clone, Copy)]
 pub struct TaskRecord {
     pub lower: Epoch,
     pub upper: Epoch,
@@ -21,7 +21,7 @@ pub struct TaskRecord {
 }
 
 // A task's words as they stand, whatever they say.
-#[derive(Drop)]
+#[derive(Clone, Copy)]
 pub struct TaskWords {
     pub lower: Epoch,
     pub upper: Epoch,
@@ -31,7 +31,7 @@ pub struct TaskWords {
 }
 
 // A block, whose state is one of the four below.
-#[derive(Drop)]
+#[derive(Clone, Copy)]
 pub struct BlockRecord {
     pub state: u32,
     pub task: Task,

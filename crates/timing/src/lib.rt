@@ -1,4 +1,6 @@
 // For the bench alone: a schedule carried out as the program steps does it, with or without a walk of the table before each field.
+#![tactic(auto)]
+
 ghost use Rattle.std.specs.Prelude.{◌≤◌};
 
 use runner::carry_out;

@@ -10,7 +10,7 @@ use table::records::BlockRecord;
 use table::words::{block_at, blocks};
 
 // The blocks in a state, those in state made by a task, or those retired by it.
-#[derive(Drop)]
+#[derive(Clone, Copy)]
 pub enum Wanted {
     InState(u32),
     MadeBy(Task),

@@ -1,4 +1,6 @@
 // The loops of the steps, each along the table's tasks, blocks or slots.
+#![tactic(auto)]
+
 pub mod counting;
 pub mod finding;
 pub mod idling;

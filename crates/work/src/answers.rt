@@ -3,7 +3,7 @@ ghost use Rattle.std.specs.Prelude.{◌≡◌};
 ghost use Rattle.work.specs.Answers.{refusal_kind, kind_of, value_of};
 
 // A refusal leaves every word of the table as it was.
-#[derive(Drop)]
+#[derive(Clone, Copy)]
 pub enum Refusal {
     // The table isn't sound.
     Unsound,
@@ -29,7 +29,7 @@ pub enum Refusal {
     Unshown,
 }
 
-#[derive(Drop)]
+#[derive(Clone, Copy)]
 pub enum Answer {
     // Done, with the step's value.
     Done(u32),

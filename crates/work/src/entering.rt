@@ -10,7 +10,7 @@ use table::records::{Phase, TaskRecord};
 use table::words::{task_at, tasks};
 
 // The phase that a step asks of its task.
-#[derive(Drop)]
+#[derive(Clone, Copy)]
 pub enum Asked {
     Any,
     Idle,
@@ -19,7 +19,7 @@ pub enum Asked {
 }
 
 // What a step goes on with: its task's record, or a refusal.
-#[derive(Drop)]
+#[derive(Clone, Copy)]
 pub enum Entry {
     At(TaskRecord),
     Out(Refusal),

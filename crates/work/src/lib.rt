@@ -1,4 +1,6 @@
 // The work of the nine steps that are not open, on a table that is known to be sound: each leaves what its rule says.
+#![tactic(auto)]
+
 pub mod answers;
 pub mod entering;
 

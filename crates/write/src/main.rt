@@ -1,6 +1,8 @@
 // Reads a schedule typed as text from standard input, one step a line by its name and numbers, and writes the schedule to standard output.
 // A wrong line is told on standard error by its number, and then nothing of the schedule is written. A read error counts as the end of what
 // was read.
+#![tactic(auto)]
+
 ghost use Rattle.std.specs.Prelude.{◌≤◌, length};
 
 use libc::{STDERR_FILENO, STDIN_FILENO, STDOUT_FILENO};
@@ -14,7 +16,7 @@ const MOST_TEXT: usize = 262144;
 const NEWLINE: u8 = 10;
 
 // How far the writing has come: the bytes of the schedule so far, whether every line was right, and whether more lines can be taken.
-#[derive(Drop)]
+#[derive(Clone, Copy)]
 struct Progress {
     used: usize,
     right: bool,

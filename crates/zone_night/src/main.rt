@@ -1,5 +1,7 @@
 // The night of +210, on the firm's own story: a slow logger task holds the record −210 while the desk shows the next one, +210. The logger's block is
 // reused only after it has ended, so that it reads -0330 to the last. Each line says what a step answered, or which ZONE characters a task reads.
+#![tactic(auto)]
+
 use libc::STDOUT_FILENO;
 use numbers::{Block, Slot, Task};
 use zones::requests::Request;

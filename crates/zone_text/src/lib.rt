@@ -1,11 +1,13 @@
 // The five characters of the Fortran ZONE argument, a sign, two digits of hours and two of minutes: written from an offset, and read back.
+#![tactic(auto)]
+
 ghost use Rattle.std.specs.Prelude.{◌≡◌, [], ◌∷◌, true, cond, ◌≤◌, ◌<◌, ◌+◌, ◌-◌, pos, neg_ℤ, nat_abs, length};
 ghost use Rattle.zone_text.specs.Offsets.{in_range, sign_of, hours_of, rest_of};
 ghost use Rattle.zone_text.specs.Zone.{is_sign, is_digit, two_of, size_of, is_zone, zone_of, written, zone_write, zone_read};
 
 // What reading answers: kind 0 and the minutes, or a refusal's kind and 0 minutes.
 #[repr(C)]
-#[derive(Drop)]
+#[derive(Clone, Copy)]
 pub struct ZoneMinutes {
     pub kind: u32,
     pub minutes: i32,

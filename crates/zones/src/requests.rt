@@ -7,7 +7,7 @@ use numbers::Block;
 use zone_text::ZoneMinutes;
 
 // A request names a whole hour, −15 to +15, or a block.
-#[derive(Drop)]
+#[derive(Clone, Copy)]
 pub enum Request {
     Hour(i32),
     Block(Block),
