@@ -3,7 +3,7 @@ use Prim.Native.Nat.{ℕ, ◌+◌, ◌*◌, ◌/◌, ◌%◌, ◌<◌}
 use mathlib.Core.Path.{◌≡◌, ap₂, ◌∙◌}
 use mathlib.Core.List.{List}
 use native.Mathlib.Omega.{arith}
-use Rattle.rules.specs.OnTable.{Result, result}
+use Rattle.rules.specs.OnTable.{Result, result_of}
 use Rattle.work.specs.Answers.{kind_of, value_of, told}
 use Rattle.work.specs.declared.answers.Answer.{Answer}
 use Rattle.exports.specs.Packed.{unpacked}
@@ -12,4 +12,4 @@ pub says : (a : Answer) (n : ℕ) (t : List ℕ) (r : Result) → (n ≡ kind_of
 says a n t r p e =
     let kind : n / 4294967296 ≡ kind_of a = omega arith in
     let value : n % 4294967296 ≡ value_of a = omega arith in
-    ap₂ (λ (k v : ℕ). result k v t) kind value ∙ e
+    ap₂ (λ (k v : ℕ). result_of k v t) kind value ∙ e

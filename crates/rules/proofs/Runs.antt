@@ -12,7 +12,7 @@ use Rattle.table.proofs.Places.{state_of-words}
 use Rattle.table.proofs.Sound.{Sound, words-sound}
 use Rattle.rules.specs.Outcome.{answers}
 use Rattle.rules.specs.Steps.{opened}
-use Rattle.rules.specs.OnTable.{Result, result, in_words, on_table, fits, open_table}
+use Rattle.rules.specs.OnTable.{Result, result_of, in_words, on_table, fits, open_table}
 use Rattle.rules.specs.Calls.{Call, step, after, table_after}
 use Rattle.rules.specs.Terms.{Reached, ReachedTable}
 use Rattle.rules.proofs.Kept.{opened-sound, step-sound}
@@ -32,8 +32,8 @@ open_accepted : (t : List ℕ) (T N P F E : ℕ) → (open_table t T N P F E).ki
 unfolding open_table
 open_accepted t T N P F E = go (fits t T N P F E) refl
   where
-    go : (x : Bool) → fits t T N P F E ≡ x → (cond x (in_words (answers 0 (length_for T N P) (opened T N P F E))) (result 2 0 t)).kind ≡ 0
-        → (sized T N P F E ≡ true) × ((cond x (in_words (answers 0 (length_for T N P) (opened T N P F E))) (result 2 0 t)).table ≡ words (opened T N P F E))
+    go : (x : Bool) → fits t T N P F E ≡ x → (cond x (in_words (answers 0 (length_for T N P) (opened T N P F E))) (result_of 2 0 t)).kind ≡ 0
+        → (sized T N P F E ≡ true) × ((cond x (in_words (answers 0 (length_for T N P) (opened T N P F E))) (result_of 2 0 t)).table ≡ words (opened T N P F E))
     go true e k = ((two (sized T N P F E) _ e).0, refl)
     go false e k = absurd (omega arith)
 

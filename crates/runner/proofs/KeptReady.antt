@@ -14,7 +14,7 @@ use Rattle.table.specs.Words.{sound, state_of, words, length_for}
 use Rattle.table.proofs.Tests.{decide}
 use Rattle.table.proofs.Places.{exact_words, words-state_of}
 use Rattle.table.proofs.Sound.{exact, facts, words-sound}
-use Rattle.rules.specs.OnTable.{result}
+use Rattle.rules.specs.OnTable.{result_of}
 use Rattle.rules.specs.Calls.{Call, step}
 use Rattle.rules.specs.Steps.{opened}
 use Rattle.rules.proofs.Changes.{step_keeps}
@@ -78,9 +78,9 @@ module _ (b : List ℕ) (used : ℕ) (h : Ready (held b used)) where
       let t = words (opened T N P F E) in
       decide (sized T N P F E)
       (λ e. let l : n ≤ length b = omega (arith, open_length T N P F E e) in
-      subst Kept (put_back_lem (held b used) (opens T N P F E) {r = result 0 n t} (rw e (open_done (take n b) T N P F E e (length-take-le n b l) n t refl refl)))
+      subst Kept (put_back_lem (held b used) (opens T N P F E) {r = result_of 0 n t} (rw e (open_done (take n b) T N P F E e (length-take-le n b l) n t refl refl)))
       (rw e (at_front b t n h.whole (omega arith) (opened-length T N P F E) (words-sound _ (opened-sound T N P F E e)))))
-      (λ e. subst Kept (put_back_lem (held b used) (opens T N P F E) {r = result 2 0 (take (length b) b)} (rw e (open_bad_size (take (length b) b) T N P F E e))) (rw e (unchanged (length b))))
+      (λ e. subst Kept (put_back_lem (held b used) (opens T N P F E) {r = result_of 2 0 (take (length b) b)} (rw e (open_bad_size (take (length b) b) T N P F E e))) (rw e (unchanged (length b))))
 
   pub ready_kept : (c : PublicCall) → Ready (carried (held b used) c).after
   ready_kept (opens T N P F E) = open_kept T N P F E

@@ -2,7 +2,7 @@
 ghost use Rattle.std.specs.Prelude.{◌≡◌, ◌≤◌, length};
 ghost use Rattle.table.specs.Words.{Exact, state_of};
 ghost use Rattle.rules.specs.Steps.{sweeps_now, retired_in, after_retire};
-ghost use Rattle.rules.specs.OnTable.{result, in_words};
+ghost use Rattle.rules.specs.OnTable.{result_of, in_words};
 
 use effects::retired;
 use numbers::{Block, Task};
@@ -13,7 +13,7 @@ use walks::sweeping::sweep_blocks;
 // Whether the number of blocks retired by the task is divisible by E.
 fn sweeps_now(table: &[u32], task: Task) -> bool
     requires { Exact table.now × (1 ≤ (state_of table.now).per_sweep) }
-    ensures* { λ r. ⌜ r ≡ sweeps_now (state_of table.now) task.0 ⌝ }
+    ensures { result ≡ sweeps_now (state_of table.now) task.0 }
 {
     count(table, Wanted::RetiredBy(task)) % per_sweep(table) == 0
 }
@@ -21,7 +21,7 @@ fn sweeps_now(table: &[u32], task: Task) -> bool
 // Retires the block, sweeps where that follows, and returns how many blocks were freed.
 pub fn put_retired(table: &mut [u32], task: Task, block: Block) -> u32
     requires { Exact table.old × (1 ≤ block.0) × (block.0 ≤ length (state_of table.old).blocks) × (1 ≤ (state_of table.old).per_sweep) }
-    ensures* { λ r. ⌜ result 0 r table.new ≡ in_words (after_retire (retired_in (state_of table.old) task.0 block.0) task.0) ⌝ }
+    ensures { result_of 0 result table.new ≡ in_words (after_retire (retired_in (state_of table.old) task.0 block.0) task.0) }
 {
     let now = epoch(table);
     let b = block_at(table, block);

@@ -10,7 +10,7 @@ use Rattle.table.specs.Words.{sound, state_of, words}
 use Rattle.table.proofs.Places.{words-state_of}
 use Rattle.table.proofs.Sound.{exact}
 use Rattle.rules.specs.Outcome.{Outcome, answers}
-use Rattle.rules.specs.OnTable.{result, in_words}
+use Rattle.rules.specs.OnTable.{result_of, in_words}
 use Rattle.work.specs.Answers.{told}
 use Rattle.work.specs.Entering.{asks, entering, Inside, Entered}
 use Rattle.work.specs.declared.answers.Answer.TheVariants.{Refused}
@@ -21,8 +21,8 @@ use Rattle.work.specs.declared.entering.Entry.TheVariants.{At, Out}
 use Rattle.table.specs.declared.records.TaskRecord.{TaskRecord}
 
 -- a refusal leaves every word as it was
-pub refused : (t : List ℕ) → sound t ≡ true → (n : ℕ) → result n 0 t ≡ in_words (answers n 0 (state_of t))
-refused t e n = ap (result n 0) (sym (words-state_of t (exact t e)))
+pub refused : (t : List ℕ) → sound t ≡ true → (n : ℕ) → result_of n 0 t ≡ in_words (answers n 0 (state_of t))
+refused t e n = ap (result_of n 0) (sym (words-state_of t (exact t e)))
 
 -- the first checks
 module _ (s : State) (k : ℕ) (asked : TaskRow → Bool) (rest : Outcome) where
@@ -49,8 +49,8 @@ module _ (t : List ℕ) (k : ℕ) (asked : Asked) (entry : Entry) (h : Entered t
 
 -- past the entry, an outcome is what the rest of its step is: a refusal, or what was done
 module _ (t : List ℕ) (k : ℕ) (asked : Asked) (r : TaskRecord) (h : Inside t k asked r) (o rest : Outcome) (q : o ≡ entering (asks asked) (state_of t) k rest) where
-  pub own : sound t ≡ true → (n : ℕ) → rest ≡ answers n 0 (state_of t) → result n 0 t ≡ in_words o
+  pub own : sound t ≡ true → (n : ℕ) → rest ≡ answers n 0 (state_of t) → result_of n 0 t ≡ in_words o
   own e n p = refused t e n ∙ ap in_words (sym (q ∙ entered (state_of t) k (asks asked) rest h.below h.phase ∙ p))
 
-  pub does : (n v : ℕ) (s' : State) → rest ≡ answers n v s' → result n v (words s') ≡ in_words o
+  pub does : (n v : ℕ) (s' : State) → rest ≡ answers n v s' → result_of n v (words s') ≡ in_words o
   does n v s' p = ap in_words (sym (q ∙ entered (state_of t) k (asks asked) rest h.below h.phase ∙ p))

@@ -1,6 +1,6 @@
 -- The numbers of an answer (01, "Answer numbers"): each case's kind and value. Assumes nothing.
 use Rattle.std.specs.Prelude.{ℕ, List}
-use Rattle.rules.specs.OnTable.{Result, result}
+use Rattle.rules.specs.OnTable.{Result, result_of}
 use Rattle.work.specs.declared.answers.Answer.{Answer}
 use Rattle.work.specs.declared.answers.Answer.TheVariants.{Done, LookAgain, Refused}
 use Rattle.work.specs.declared.answers.Refusal.{Refusal}
@@ -31,4 +31,4 @@ value_of (Refused refusal) = 0
 
 -- what a call told its caller and left in the table
 abbrev pub told : Answer → List ℕ → Result
-told a t = result (kind_of a) (value_of a) t
+told a t = result_of (kind_of a) (value_of a) t

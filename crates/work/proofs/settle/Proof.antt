@@ -2,7 +2,7 @@
 use Prim.Native.Nat.{ℕ}
 use mathlib.Core.Path.{ap, ◌∙◌}
 use Rattle.table.proofs.Sound.{exact}
-use Rattle.rules.specs.OnTable.{result}
+use Rattle.rules.specs.OnTable.{result_of}
 use Rattle.work.specs.Entering.{Inside}
 use Rattle.work.specs.declared.entering.Asked.TheVariants.{Looking}
 use Rattle.work.proofs.Entries.{at, out}
@@ -22,7 +22,7 @@ settle-spec =
     (λ c κs. search rules)
     (λ c κs. (exact _ c.before.before.before.before.before.before.before.before.before.before.before.requires, (inside c.before.before.before.before.before.before).below))
     (λ c. search rules)
-    (λ c. ap (λ (v : ℕ). result 0 v c.before.before.before.before.before.put-task.new.0) c.before.before.before.before.before.before.before.before.candidate.ensures ∙ settle_done_lem _ _ _ (inside c.before.before.before.before.before.before.before.before.before.before.before.before) _ _ _ c.before.before.before.before.before.before.before.before.before.epoch.ensures c.before.before.before.before.before.before.settled.ensures c.before.before.before.before.before.put-task.ensures c.if1.true)
+    (λ c. ap (λ (v : ℕ). result_of 0 v c.before.before.before.before.before.put-task.new.0) c.before.before.before.before.before.before.before.before.candidate.ensures ∙ settle_done_lem _ _ _ (inside c.before.before.before.before.before.before.before.before.before.before.before.before) _ _ _ c.before.before.before.before.before.before.before.before.before.epoch.ensures c.before.before.before.before.before.before.settled.ensures c.before.before.before.before.before.put-task.ensures c.if1.true)
     (λ c. search rules)
     (λ c. out _ _ _ _ c.before.before.before.enter.ensures c.before.x.given.1 _ (settle_enters _ _))
     (λ c. search rules)

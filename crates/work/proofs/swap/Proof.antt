@@ -9,7 +9,7 @@ use borrow.Author.Tests.{ltb-false, not-true, not-false}
 use Rattle.table.specs.Words.{state_of}
 use Rattle.table.proofs.Tests.{neither}
 use Rattle.table.proofs.Sound.{exact}
-use Rattle.rules.specs.OnTable.{result}
+use Rattle.rules.specs.OnTable.{result_of}
 use Rattle.rules.specs.Steps.{above_n}
 use Rattle.work.specs.Entering.{Inside}
 use Rattle.work.specs.declared.entering.Asked.TheVariants.{Working}
@@ -55,4 +55,4 @@ swap_spec =
     (λ c. search rules)
     (λ c. out _ _ _ _ c.before.before.before.enter.ensures c.before.x.given.1 _ (swap_enters _ _ _ _ _))
     (λ c. search rules)
-    (λ c. ap (result 0 1) c.before.before.put-shown.ensures ∙ swap_done_lem _ _ _ (inside c.before.before.before.before.before.before.before.before.before.before.before.before.before.before.before.before.before.before.before.before.before) _ _ _ (in-slots c.before.before.before.before.before.before.before.before.before.before.before.before.before.before.before.before.before) (there c.before.before.before.before.before.before.before.before.before.before.before.before) (sym c.before.before.before.before.before.before.before.before.before.before.may-show.ensures ∙ not-false _ c.before.before.before.before.before.before.before.before.before.if3.false) (sym c.before.before.before.before.before.before.before.slot_at.ensures ∙ c.before.before.before.before.if4.false)))
+    (λ c. ap (result_of 0 1) c.before.before.put-shown.ensures ∙ swap_done_lem _ _ _ (inside c.before.before.before.before.before.before.before.before.before.before.before.before.before.before.before.before.before.before.before.before.before) _ _ _ (in-slots c.before.before.before.before.before.before.before.before.before.before.before.before.before.before.before.before.before) (there c.before.before.before.before.before.before.before.before.before.before.before.before) (sym c.before.before.before.before.before.before.before.before.before.before.may-show.ensures ∙ not-false _ c.before.before.before.before.before.before.before.before.before.if3.false) (sym c.before.before.before.before.before.before.before.slot_at.ensures ∙ c.before.before.before.before.if4.false)))

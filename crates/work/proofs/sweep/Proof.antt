@@ -1,7 +1,7 @@
 -- `work::sweep` meets its contract. Assumes nothing.
 use mathlib.Core.Path.{ap₂, ◌∙◌}
 use Rattle.table.proofs.Sound.{exact}
-use Rattle.rules.specs.OnTable.{result}
+use Rattle.rules.specs.OnTable.{result_of}
 use Rattle.work.specs.Entering.{Inside}
 use Rattle.work.specs.declared.entering.Asked.TheVariants.{Any}
 use Rattle.work.proofs.Entries.{at, out}
@@ -20,4 +20,4 @@ sweep-spec =
     (λ c κs. exact _ c.before.before.before.before.before.before.requires) (λ c. search rules)
     (λ c. out _ _ _ _ c.before.before.before.enter.ensures c.before.x.given.1 _ (sweep_enters _ _))
     (λ c. search rules)
-    (λ c. ap₂ (result 0) c.before.before.sweep-blocks.ensures.0 c.before.before.sweep-blocks.ensures.1 ∙ sweep_done_lem _ _ _ (inside c.before.before.before.before)))
+    (λ c. ap₂ (result_of 0) c.before.before.sweep-blocks.ensures.0 c.before.before.sweep-blocks.ensures.1 ∙ sweep_done_lem _ _ _ (inside c.before.before.before.before)))

@@ -7,7 +7,7 @@ use Rattle.table.proofs.Places.{says}
 use Rattle.rules.specs.Effects.{retired}
 use Rattle.rules.specs.Sweeping.{freed_by, swept}
 use Rattle.rules.specs.Steps.{retired_in, sweeps_now}
-use Rattle.rules.specs.OnTable.{result}
+use Rattle.rules.specs.OnTable.{result_of}
 use borrow.Author.Rules.{rules}
 use Rattle.storing.proofs.retiring.put_retired.Statement.{statement}
 use Rattle.storing.proofs.retiring.put_retired.Tie as tie
@@ -34,11 +34,11 @@ returns : tie.Need-returns
 returns c =
     let k = c.before.before.before.before.before.before.before.before.before.before.before.before.before.before.before.before.before.args.task.0 in
     let d = c.before.before.sweep-blocks.ensures in
-    ap₂ (result 0) (d.0 ∙ ap (λ (u : State). freed_by u k) (state c.before.before.before.before.before.before.before.before.before)) (d.1 ∙ ap (λ (u : State). words (swept u k)) (state c.before.before.before.before.before.before.before.before.before))
+    ap₂ (result_of 0) (d.0 ∙ ap (λ (u : State). freed_by u k) (state c.before.before.before.before.before.before.before.before.before)) (d.1 ∙ ap (λ (u : State). words (swept u k)) (state c.before.before.before.before.before.before.before.before.before))
     ∙ rw (said c.before.before.before.before.before ∙ c.before.before.before.before.if1.true)
 
 returns-2 : tie.Need-returns-2
-returns-2 c = ap (result 0 0) (put c.before.before.before.before.before) ∙ rw (said c.before ∙ c.if1.false)
+returns-2 c = ap (result_of 0 0) (put c.before.before.before.before.before) ∙ rw (said c.before ∙ c.if1.false)
 
 pub put-retired-spec : {M : Type 1} → statement M
 put-retired-spec =
