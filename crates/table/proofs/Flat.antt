@@ -72,7 +72,7 @@ module _ {A : Type 0} (f : A → List ℕ) (g : List ℕ → ℕ → A) (w : ℕ
       let e : length p + w ≡ length (p ++ f x) = omega (arith, length-append p (f x), wide x) in
       let first : g (p ++ (flat f (x ∷ xs) ++ q)) (length p) ≡ x = rw whole (back p x (flat f xs ++ q)) in
       let rest : read_from g w (p ++ (flat f (x ∷ xs) ++ q)) (length p + w) (length xs) ≡ xs =
-          rw (whole, e, ← append_assoc p (f x) (flat f xs ++ q)) (read_flat wide back (p ++ f x) xs q) in
+      rw (whole, e, ← append_assoc p (f x) (flat f xs ++ q)) (read_flat wide back (p ++ f x) xs q) in
       rw first (ap (λ (l : List A). x ∷ l) rest)
 
   -- what is read says the words it was read from

@@ -1,0 +1,6 @@
+use Rattle.std.proofs.Common.{ℕ, ap, ◌∙◌, replicate}
+use Rattle.table.proofs.Blanks.{blank-words}
+use Rattle.table.proofs.words.put_blank.Goals as goal
+
+pub returns : goal.returns
+returns c = blank-words _ _ _ _ _ _ (c.clear.ensures ∙ ap (λ (n : ℕ). replicate n 0) c.requires)

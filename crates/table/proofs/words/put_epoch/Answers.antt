@@ -1,0 +1,5 @@
+use Rattle.table.proofs.Places.{epoch_put}
+use Rattle.table.proofs.words.put_epoch.Goals as goal
+
+pub returns : goal.returns
+returns c = epoch_put _ c.requires _

@@ -1,0 +1,5 @@
+use Rattle.table.proofs.Places.{task_put}
+use Rattle.table.proofs.words.put_task.Goals as goal
+
+pub returns : goal.returns
+returns c = rw (c.number.ensures, c.candidate.ensures) (task_put _ c.requires.0 _ _ _ c.requires.1 c.task_place-at.ensures.0)

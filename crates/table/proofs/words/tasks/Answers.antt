@@ -1,0 +1,6 @@
+use Rattle.std.proofs.Common.{sym}
+use Rattle.table.proofs.Places.{tasks_read}
+use Rattle.table.proofs.words.tasks.Goals as goal
+
+pub returns : goal.returns
+returns c = sym (tasks_read _)
