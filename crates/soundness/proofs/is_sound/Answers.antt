@@ -1,0 +1,14 @@
+use Rattle.std.proofs.Common.{rules, ◌≡◌, true, sym, ◌∙◌}
+use Rattle.table.specs.Soundness.{sound_state}
+use Rattle.table.specs.Words.{is_exact, sound}
+use Rattle.soundness.proofs.is_sound.Goals as goal
+
+pub returns-then-not-is_exact : goal.returns-then-not-is_exact
+unfolding sound
+returns-then-not-is_exact c = rw (← c.is_exact.ensures, c.if-not-is_exact.true)
+
+pub returns : goal.returns
+unfolding sound sound_state
+returns c =
+    let exact : is_exact c.args.table.now ≡ true = sym c.is_exact.ensures ∙ search rules in
+    rw (exact, c.numbers_sound.ensures, c.tasks_sound.ensures, c.blocks_sound.ensures, c.slots_sound.ensures)

@@ -1,0 +1,13 @@
+use Rattle.std.proofs.Common.{◌≡◌, ◌≤◌, ◌-◌, ◌&&◌, length, drop}
+use Rattle.table.specs.Lists.{all}
+use Rattle.table.specs.Soundness.{sound_task, sound_tasks}
+use Rattle.table.specs.Words.{state_of}
+use Rattle.soundness.proofs.tasks_sound.Given as goal
+
+abbrev pub invariant-loop-i : goal.invariant-loop-i
+invariant-loop-i l =
+    (l.i ≤ l.n)
+    × (sound_tasks (state_of l.table) ≡ l.ok && all (sound_task (state_of l.table).epoch (length (state_of l.table).blocks)) (drop l.i (state_of l.table).tasks))
+
+abbrev pub decreases-loop-i : goal.decreases-loop-i
+decreases-loop-i l = l.n - l.i
