@@ -1,0 +1,14 @@
+use Rattle.std.proofs.Common.{◌≡◌, false, arith, sym, ap, ◌∙◌}
+use Rattle.table.specs.State.{block_of}
+use Rattle.table.specs.Words.{state_of}
+use Rattle.table.proofs.Places.{block_same}
+use Rattle.rules.specs.Sweeping.{frees}
+use Rattle.walks.proofs.sweeping.sweep_block.Goals as goal
+
+pub returns-else-frees : goal.returns-else-frees
+returns-else-frees c =
+    let a = c.args in
+    let s = state_of a.table.now in
+    let e : frees s.tasks a.task.0 (block_of s a.block.0) ≡ false =
+    sym (c.frees.ensures ∙ ap (frees s.tasks a.task.0) c.block_at-r.ensures) ∙ c.if-frees.false in
+    (rw e, omega arith, rw e (block_same _ c.requires.0 a.block.0))

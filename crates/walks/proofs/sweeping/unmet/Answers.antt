@@ -1,0 +1,7 @@
+use Rattle.std.proofs.Common.{rules, refl}
+use Rattle.rules.specs.Sweeping.{unmet}
+use Rattle.walks.proofs.sweeping.unmet.Goals as goal
+
+pub loop-i-init : goal.loop-i-init
+unfolding unmet
+loop-i-init c = (search rules, refl)
