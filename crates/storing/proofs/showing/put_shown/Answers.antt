@@ -1,0 +1,16 @@
+use Rattle.std.proofs.Common.{◌≤◌, arith, sym, ap, ◌∙◌, subst, length}
+use Rattle.table.specs.State.{State, block_of, with_block}
+use Rattle.table.specs.Words.{words}
+use Rattle.table.proofs.Places.{says}
+use Rattle.rules.specs.Effects.{shown_if_made}
+use Rattle.storing.proofs.showing.put_shown.Goals as goal
+
+pub show-requires : goal.show-requires
+show-requires c =
+    let t = says _ _ c.put_slot.ensures in
+    (t.0, omega arith, subst (λ (u : State). c.args.block.0 ≤ length u.blocks) (sym t.1) c.requires.2)
+
+pub returns-then-block-ne0 : goal.returns-then-block-ne0
+returns-then-block-ne0 c =
+    let b = c.args.block.0 in
+    c.show.ensures ∙ ap (λ (u : State). words (with_block u b (shown_if_made (block_of u b)))) (says _ _ c.put_slot.ensures).1
