@@ -1,5 +1,5 @@
 // The work of the nine steps that are not open, on a table that is known to be sound: each leaves what its rule says.
-#![tactic(auto)]
+#![tactic(auto, using(table::proofs::Sound::exact))]
 
 pub mod answers;
 pub mod entering;
