@@ -74,6 +74,7 @@ fn found<'a>(table: &'a [u8], room: &'a [u8], request: Request) -> &'a [u8]
 }
 
 // The record that a request names; an empty part where it is refused. Both stores at one lifetime.
+#[tactic(auto, using(crate::proofs::Parts::kept, crate::proofs::Parts::dropped))]
 pub fn record<'a>(table: &'a [u8], room: &'a [u8], request: Request) -> &'a [u8]
     ensures { lent result ≡ record_of (lent table.entry) (lent room.entry) request }
 {
@@ -99,5 +100,6 @@ where
     'r: 'o,
     ensures { lent result ≡ record_of (lent table.entry) (lent room.entry) request }
 {
-    record(table, room, request)
+    let part = record(table, room, request);
+    part
 }
