@@ -1,10 +1,8 @@
 use Rattle.std.proofs.Common.{◌≡◌, ◌≤◌, ◌||◌, ℕ, Bool, false, nat_lt, arith, refl, sym, ap, ◌∙◌, ◌==◌}
 use borrow.Author.Tests.{eqb-false, ltb-false}
-use Rattle.table.specs.State.{block_of}
-use Rattle.table.specs.Words.{state_of}
 use Rattle.table.proofs.Tests.{neither}
 use Rattle.table.proofs.Sound.{exact, facts}
-use Rattle.rules.specs.Steps.{above_n, in_hand}
+use Rattle.rules.specs.Steps.{in_hand}
 use Rattle.work.specs.declared.entering.Asked.{Asked}
 use Rattle.work.proofs.Entries.{out}
 use Rattle.work.proofs.Cases.{retire_enters, retire_no_block, retire-wrong_block, retire-named, retire_done_lem}

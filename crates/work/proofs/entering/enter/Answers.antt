@@ -1,6 +1,4 @@
-use Rattle.std.proofs.Common.{◌≡◌, sym, ap, ◌∙◌, arith}
-use Rattle.table.specs.State.{task_of}
-use Rattle.table.specs.Words.{state_of}
+use Rattle.std.proofs.Common.{sym, ap, ◌∙◌, arith}
 use Rattle.rules.specs.OnTable.{in_words}
 use Rattle.work.specs.Entering.{asks}
 use Rattle.work.proofs.Entries.{refused, no_task_lem, wrong-phase}
