@@ -1,6 +1,6 @@
 // The ten steps over one lent table. Each takes any numbers and any slice of words; what it answers and leaves is its rule, and a refusal
 // leaves every word as it was.
-#![tactic(auto)]
+#![tactic(auto, unfolding(rules::specs::OnTable::on_table))]
 
 ghost use Rattle.std.specs.Prelude.{◌≡◌};
 ghost use Rattle.rules.specs.Steps.{start, look, settle, make, swap, retire, sweep, end, tally};
