@@ -97,7 +97,7 @@ module _ (s : List ℕ) (at : ℕ) (bytes : Below 256 s) {tag next : ℕ} {numbe
       let f = fours tag in
       let body = part s (at + 3) n in
       let l : length body ≡ n = length-take-le n (drop (at + 3) s) (simp length-drop (omega arith)) in
-      rw (w.its-numbers, take_read body (count_of tag) 5 0 (omega arith))
+      rw (w.its_numbers, take_read body (count_of tag) 5 0 (omega arith))
       (body_numbers body (below-part 256 s (at + 3) n (omega arith) bytes) (count_of tag) 0 (omega arith)
       ∙ ap (λ (k : ℕ). take k body) f.whole ∙ take_all n body (omega arith))
 
@@ -107,7 +107,7 @@ module _ (s : List ℕ) (at : ℕ) (bytes : Below 256 s) {tag next : ℕ} {numbe
   accepted-bytes =
       let n = length_of tag in
       let w = found in
-      let first : tag ∷ [] ≡ part s at 1 = rw (drop-cons s at 0 (omega arith)) (ap (λ (x : ℕ). x ∷ []) w.its-tag) in
+      let first : tag ∷ [] ≡ part s at 1 = rw (drop-cons s at 0 (omega arith)) (ap (λ (x : ℕ). x ∷ []) w.its_tag) in
       let second : bytes_of 2 n ≡ part s (at + 1) 2 = ap (bytes_of 2) (sym w.said) ∙ bytes-number s bytes 2 (at + 1) (omega arith) in
       rw (second, body_said, part_add s at 3 n, part_add s at 1 2, ← first)
 

@@ -65,7 +65,7 @@ fn byte(bytes: &[u8], at: usize) -> u32
 }
 
 // Two bytes of a slice, most significant byte first.
-fn two_bytes_lem(bytes: &[u8], at: usize) -> u32
+fn two_bytes(bytes: &[u8], at: usize) -> u32
     requires { at + 1 < 18446744073709551616 }
     ensures { (result ≡ number 2 bytes.now at) × (result < 65536) }
 {
@@ -80,8 +80,8 @@ fn number(body: &[u8], i: usize) -> u32
     ensures { result ≡ number 4 body.now (4 * i) }
 {
     let at = NUMBER * i;
-    let high = two_bytes_lem(body, at);
-    let low = two_bytes_lem(body, at + 2);
+    let high = two_bytes(body, at);
+    let low = two_bytes(body, at + 2);
     high * 65536 + low
 }
 
@@ -125,7 +125,7 @@ fn fault_kind(schedule: &[u8], at: usize, asked: usize) -> u32
     if asked == 0 {
         return UNKNOWN_TAG;
     }
-    if two_bytes_lem(schedule, at + 1) as usize != asked {
+    if two_bytes(schedule, at + 1) as usize != asked {
         return OTHER_LENGTH;
     }
     if left - HEAD < asked {
