@@ -34,7 +34,7 @@ module _ (s : List ℕ) (at : ℕ) (bytes : Below 256 s) {tag next : ℕ} {numbe
   small : Below 4294967296 (list_of tag numbers)
   small =
       let body = part s (at + 3) (length_of tag) in
-      rw found.its-numbers (below-take 4294967296 (count_of tag) _ (omega arith) (five_below body (below-part 256 s (at + 3) (length_of tag) (omega arith) bytes)))
+      rw found.its_numbers (below-take 4294967296 (count_of tag) _ (omega arith) (five_below body (below-part 256 s (at + 3) (length_of tag) (omega arith) bytes)))
 
   counted : length (list_of tag numbers) ≡ count_of tag
   counted = let f = fours tag in length-take-le (count_of tag) _ (omega arith)

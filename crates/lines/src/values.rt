@@ -39,7 +39,7 @@ fn digit_value(digit: u8) -> u64
 }
 
 // One digit more, up to the limit.
-fn one_more_lem(value: u64, digit: u8) -> u64
+fn one_more(value: u64, digit: u8) -> u64
     requires { value ≤ 4294967296 }
     ensures { result ≡ min 4294967296 (one_more value digit) }
 {
@@ -54,12 +54,13 @@ fn decimal(word: &[u8]) -> u64
     let mut value = 0;
     let mut i = 0;
     while i < word.len() {
-        value = one_more_lem(value, word[i]);
+        value = one_more(value, word[i]);
         i += 1;
     }
     value
 }
 
+#[tactic(auto, using(crate::proofs::Cases::not_digits, crate::proofs::Cases::too_large, crate::proofs::Cases::value))]
 fn number_of(word: &[u8]) -> OneNumber
     ensures { result ≡ number_of word.now }
 {
