@@ -59,6 +59,7 @@ fn open(buffer: &mut [u32], used: usize, n: Numbers) -> Ran
 }
 
 // A step that is not open, on a table that is known to be sound.
+#[tactic(auto, unfolding(crate::specs::Running::step_of))]
 fn step(table: &mut [u32], tag: u8, n: Numbers) -> Answer
     requires { (sound table.old ≡ true) × (2 ≤ tag) × (tag ≤ 10) }
     ensures { told result table.new ≡ in_words (step (state_of table.old) (step_of tag n)) }
