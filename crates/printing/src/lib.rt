@@ -1,26 +1,19 @@
 // Prints the run of a schedule: a header, then one line for each field.
 #![tactic(auto)]
 
-use libc::STDOUT_FILENO;
 use runner::carry_out;
 use schedule::{Field, MOST_BYTES, field_at};
+use std::io;
 
 // The kind of a schedule that has more.
 const TOO_LONG: u64 = 24;
 
-fn print_line(step: u64, tag: u64, kind: u64, value: u64) {
-    io::print_decimal(STDOUT_FILENO, step);
-    io::write_all(STDOUT_FILENO, b" ");
-    io::print_decimal(STDOUT_FILENO, tag);
-    io::write_all(STDOUT_FILENO, b" ");
-    io::print_decimal(STDOUT_FILENO, kind);
-    io::write_all(STDOUT_FILENO, b" ");
-    io::print_decimal(STDOUT_FILENO, value);
-    io::write_all(STDOUT_FILENO, b"\n");
+fn print_line(rt: &impl Print, step: u64, tag: u64, kind: u64, value: u64) -> io::Result<()> {
+    println!(rt; "{step} {tag} {kind} {value}")
 }
 
 // Carries out the fields one after another, up to the end or the first fault.
-fn print_fields(schedule: &[u8]) {
+fn print_fields(rt: &impl Print, schedule: &[u8]) -> io::Result<()> {
     let mut buffer = [0u32; 4518];
     let mut used: usize = 0;
     let mut at: usize = 0;
@@ -31,31 +24,30 @@ fn print_fields(schedule: &[u8]) {
                 let ran = carry_out(&mut buffer, used, tag, numbers);
                 let answer = ran.answer;
                 print_line(
+                    rt,
                     step,
                     tag as u64,
                     answer.kind() as u64,
                     answer.value() as u64,
-                );
+                )?;
                 used = ran.used;
                 at = next;
                 step += 1;
             }
             Field::Fault { kind, tag } => {
-                print_line(step, tag as u64, kind as u64, at as u64);
-                return;
+                return print_line(rt, step, tag as u64, kind as u64, at as u64);
             }
             Field::End => {
-                return;
+                return Ok(());
             }
         }
     }
 }
 
-pub fn print_run(schedule: &[u8]) {
-    io::write_all(STDOUT_FILENO, b"step tag kind value\n");
+pub fn print_run(rt: &impl Print, schedule: &[u8]) -> io::Result<()> {
+    println!(rt; "step tag kind value")?;
     if schedule.len() > MOST_BYTES {
-        print_line(0, 0, TOO_LONG, 0);
-        return;
+        return print_line(rt, 0, 0, TOO_LONG, 0);
     }
-    print_fields(schedule);
+    print_fields(rt, schedule)
 }
