@@ -1,15 +1,19 @@
 // Reads a schedule from standard input and prints it as text, one step a line by its name and numbers. The first field that is none is told
-// on standard error by its place. A read error counts as the end of what was read.
+// on standard error by its place. A read error counts as the end of what was read. A write that fails ends the program with an error, but
+// quietly where the reader has left.
 #![tactic(auto)]
 
-use libc::{STDERR_FILENO, STDIN_FILENO, STDOUT_FILENO};
+ghost use Rattle.std.specs.Prelude.{◌≤◌, length};
+
 use lines::names::put_name;
 use schedule::{Field, MOST_BYTES, Numbers, count_of, field_at};
+use std::io;
+use std::io::{ErrorKind, Read, Stdin};
 
-fn print_name(tag: u8) {
+fn print_name(rt: &impl Print, tag: u8) -> io::Result<()> {
     let mut name = [0u8; 6];
     let n = put_name(tag, &mut name);
-    io::write_all(STDOUT_FILENO, &name[..n]);
+    rt.write_all(&name[..n])
 }
 
 fn number_at(numbers: Numbers, i: usize) -> u32 {
@@ -23,64 +27,72 @@ fn number_at(numbers: Numbers, i: usize) -> u32 {
 }
 
 // Prints the numbers that a tag has, each after a space.
-fn print_numbers(tag: u8, numbers: Numbers) {
+fn print_numbers(rt: &impl Print, tag: u8, numbers: Numbers) -> io::Result<()> {
     let count = count_of(tag);
-    let mut i = 0;
-    while i < count {
-        io::write_all(STDOUT_FILENO, b" ");
-        io::print_decimal(STDOUT_FILENO, number_at(numbers, i) as u64);
-        i += 1;
+    for i in 0..count {
+        print!(rt; " {}", number_at(numbers, i))?;
     }
+    Ok(())
 }
 
-fn complain(at: usize, what: &[u8]) {
-    io::write_all(STDERR_FILENO, b"byte ");
-    io::print_decimal(STDERR_FILENO, at as u64);
-    io::write_all(STDERR_FILENO, b": kind ");
-    io::write_all(STDERR_FILENO, what);
+fn complain(rt: &impl Eprint, at: usize, what: &str) -> io::Result<()> {
+    eprintln!(rt; "byte {at}: kind {what}")
 }
 
 // Tells the fault of the field at a place.
-fn complain_of(at: usize, kind: u32) {
+fn complain_of(rt: &impl Eprint, at: usize, kind: u32) -> io::Result<()> {
     match kind {
-        21 => complain(at, b"21: the field is cut short\n"),
-        22 => complain(at, b"22: no step has this tag\n"),
-        _ => complain(at, b"23: the length is not the tag's\n"),
+        21 => complain(rt, at, "21: the field is cut short"),
+        22 => complain(rt, at, "22: no step has this tag"),
+        _ => complain(rt, at, "23: the length is not the tag's"),
     }
 }
 
 // Prints the fields one after another, up to the end or the first fault.
-fn list_fields(schedule: &[u8]) {
+fn list_fields(rt: &(impl Print + Eprint), schedule: &[u8]) -> io::Result<()> {
     let mut at: usize = 0;
     loop {
         match field_at(schedule, at) {
             Field::Step { tag, numbers, next } => {
-                print_name(tag);
-                print_numbers(tag, numbers);
-                io::write_all(STDOUT_FILENO, b"\n");
+                print_name(rt, tag)?;
+                print_numbers(rt, tag, numbers)?;
+                println!(rt)?;
                 at = next;
             }
             Field::Fault { kind, tag: _ } => {
-                complain_of(at, kind);
-                return;
+                return complain_of(rt, at, kind);
             }
             Field::End => {
-                return;
+                return Ok(());
             }
         }
     }
 }
 
-fn main() {
+// Reads until the buffer is full, the input ends or a read fails: how many bytes there are at the start of the buffer.
+fn read_full(mut input: Stdin, buffer: &mut [u8]) -> usize
+    ensures { result ≤ length buffer.new }
+{
+    let mut done = 0;
+    while done < buffer.len() {
+        match input.read(&mut buffer[done..]) {
+            Ok(n) if n > 0 => done += n,
+            _ => return done,
+        }
+    }
+    done
+}
+
+fn main(rt: HostRuntime) -> io::Result<()> {
     // One byte more than a schedule may have, so that a longer one is seen to be longer.
     let mut input = [0u8; 65537];
-    let n = io::read_full(STDIN_FILENO, &mut input);
+    let n = read_full(rt.stdin(), &mut input);
     if n > MOST_BYTES {
-        io::write_all(
-            STDERR_FILENO,
-            b"kind 24: the schedule is longer than 65536 bytes\n",
-        );
-        return;
+        return eprintln!(rt; "kind 24: the schedule is longer than 65536 bytes");
     }
-    list_fields(&input[..n]);
+    match list_fields(&rt, &input[..n]) {
+        // A reader that has left wants no more.
+        Err(e) if e.kind() == ErrorKind::BrokenPipe => Ok(()),
+        ended => ended,
+    }
 }

@@ -5,10 +5,10 @@
 
 ghost use Rattle.std.specs.Prelude.{◌≤◌, length};
 
-use libc::{STDERR_FILENO, STDIN_FILENO, STDOUT_FILENO};
 use lines::{Line, NOT_A_NUMBER, TOO_FEW_NUMBERS, TOO_LARGE, UNKNOWN_STEP, read_line};
 use schedule::writing::write_field;
 use schedule::{MOST_BYTES, Numbers, count_of};
+use std::io::{ErrorKind, Read, Stdin};
 
 // A text has at most so many bytes: what a schedule of 65,536 bytes is listed as always fits, at 29 bytes for 11 at the most.
 const MOST_TEXT: usize = 262144;
@@ -23,22 +23,19 @@ struct Progress {
     open: bool,
 }
 
-fn complain(number: u64, what: &[u8]) {
-    io::write_all(STDERR_FILENO, b"line ");
-    io::print_decimal(STDERR_FILENO, number);
-    io::write_all(STDERR_FILENO, b": ");
-    io::write_all(STDERR_FILENO, what);
-    io::write_all(STDERR_FILENO, b"\n");
+// A complaint that can't be written is lost.
+fn complain(rt: &impl Eprint, number: u64, what: &str) {
+    let _ = eprintln!(rt; "line {number}: {what}");
 }
 
 // Tells what is wrong with a line.
-fn complain_of(number: u64, what: u32) {
+fn complain_of(rt: &impl Eprint, number: u64, what: u32) {
     match what {
-        UNKNOWN_STEP => complain(number, b"unknown step"),
-        NOT_A_NUMBER => complain(number, b"not a number"),
-        TOO_LARGE => complain(number, b"a number above 4294967295"),
-        TOO_FEW_NUMBERS => complain(number, b"too few numbers"),
-        _ => complain(number, b"too many numbers"),
+        UNKNOWN_STEP => complain(rt, number, "unknown step"),
+        NOT_A_NUMBER => complain(rt, number, "not a number"),
+        TOO_LARGE => complain(rt, number, "a number above 4294967295"),
+        TOO_FEW_NUMBERS => complain(rt, number, "too few numbers"),
+        _ => complain(rt, number, "too many numbers"),
     }
 }
 
@@ -59,7 +56,13 @@ fn put_step(schedule: &mut [u8], used: usize, tag: u8, numbers: Numbers) -> usiz
 }
 
 // Takes one line more.
-fn take_line(schedule: &mut [u8], done: Progress, number: u64, line: &[u8]) -> Progress
+fn take_line(
+    rt: &impl Eprint,
+    schedule: &mut [u8],
+    done: Progress,
+    number: u64,
+    line: &[u8],
+) -> Progress
     requires { done.used ≤ length schedule.old }
     ensures { result.used ≤ length schedule.new }
 {
@@ -68,7 +71,7 @@ fn take_line(schedule: &mut [u8], done: Progress, number: u64, line: &[u8]) -> P
     match read_line(line) {
         Line::Blank => done,
         Line::Wrong { what } => {
-            complain_of(number, what);
+            complain_of(rt, number, what);
             Progress {
                 used,
                 right: false,
@@ -78,7 +81,7 @@ fn take_line(schedule: &mut [u8], done: Progress, number: u64, line: &[u8]) -> P
         Line::Step { tag, numbers } => {
             let after = put_step(schedule, used, tag, numbers);
             if after == 0 {
-                complain(number, b"the schedule would be longer than 65536 bytes");
+                complain(rt, number, "the schedule would be longer than 65536 bytes");
                 return Progress {
                     used,
                     right: false,
@@ -94,8 +97,20 @@ fn take_line(schedule: &mut [u8], done: Progress, number: u64, line: &[u8]) -> P
     }
 }
 
+// Where a line that starts at a place ends: at the next newline, or at the end of the text.
+fn line_end(text: &[u8], at: usize) -> usize
+    requires { at ≤ length text.now }
+    ensures from { at ≤ result }
+    ensures within { result ≤ length text.now }
+{
+    match text[at..].iter().position(|byte| *byte == NEWLINE) {
+        Some(before) => at + before,
+        None => text.len(),
+    }
+}
+
 // Takes the lines of a text one after another.
-fn take_lines(schedule: &mut [u8], text: &[u8]) -> Progress
+fn take_lines(rt: &impl Eprint, schedule: &mut [u8], text: &[u8]) -> Progress
     ensures { result.used ≤ length schedule.new }
 {
     let mut done = Progress {
@@ -106,9 +121,9 @@ fn take_lines(schedule: &mut [u8], text: &[u8]) -> Progress
     let mut at: usize = 0;
     let mut number: u64 = 0;
     while (at < text.len()) & done.open {
-        let end = bytes::scan::find(text, at, text.len(), NEWLINE);
+        let end = line_end(text, at);
         number += 1;
-        done = take_line(schedule, done, number, &text[at..end]);
+        done = take_line(rt, schedule, done, number, &text[at..end]);
         if end == text.len() {
             return done;
         }
@@ -118,24 +133,42 @@ fn take_lines(schedule: &mut [u8], text: &[u8]) -> Progress
 }
 
 // Writes the schedule of a text, if all its lines are right.
-fn write_schedule(text: &[u8]) {
+fn write_schedule(rt: &(impl Print + Eprint), text: &[u8]) {
     let mut schedule = [0u8; MOST_BYTES];
-    let done = take_lines(&mut schedule, text);
+    let done = take_lines(rt, &mut schedule, text);
     if done.right {
         let used = done.used;
-        if !io::write_all(STDOUT_FILENO, &schedule[..used]) {
-            io::write_all(STDERR_FILENO, b"the schedule could not be written\n");
+        match rt.write_all(&schedule[..used]) {
+            // A reader that has left needs no complaint.
+            Err(e) if e.kind() != ErrorKind::BrokenPipe => {
+                let _ = eprintln!(rt; "the schedule could not be written");
+            }
+            _ => {}
         }
     }
 }
 
-fn main() {
+// Reads until the buffer is full, the input ends or a read fails: how many bytes there are at the start of the buffer.
+fn read_full(mut input: Stdin, buffer: &mut [u8]) -> usize
+    ensures { result ≤ length buffer.new }
+{
+    let mut done = 0;
+    while done < buffer.len() {
+        match input.read(&mut buffer[done..]) {
+            Ok(n) if n > 0 => done += n,
+            _ => return done,
+        }
+    }
+    done
+}
+
+fn main(rt: HostRuntime) {
     // One byte more than a text may have, so that a longer one is seen to be longer.
     let mut input = [0u8; 262145];
-    let n = io::read_full(STDIN_FILENO, &mut input);
+    let n = read_full(rt.stdin(), &mut input);
     if n > MOST_TEXT {
-        io::write_all(STDERR_FILENO, b"the text is longer than 262144 bytes\n");
+        let _ = eprintln!(rt; "the text is longer than 262144 bytes");
         return;
     }
-    write_schedule(&input[..n]);
+    write_schedule(&rt, &input[..n]);
 }
