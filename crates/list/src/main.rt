@@ -3,12 +3,11 @@
 // quietly where the reader has left.
 #![tactic(auto)]
 
-ghost use Rattle.std.specs.Prelude.{◌≤◌, length};
-
 use lines::names::put_name;
 use schedule::{Field, MOST_BYTES, Numbers, count_of, field_at};
 use std::io;
-use std::io::{ErrorKind, Read, Stdin};
+use std::io::ErrorKind;
+use streams::read_full;
 
 fn print_name(rt: &impl Print, tag: u8) -> io::Result<()> {
     let mut name = [0u8; 6];
@@ -67,20 +66,6 @@ fn list_fields(rt: &(impl Print + Eprint), schedule: &[u8]) -> io::Result<()> {
             }
         }
     }
-}
-
-// Reads until the buffer is full, the input ends or a read fails: how many bytes there are at the start of the buffer.
-fn read_full(mut input: Stdin, buffer: &mut [u8]) -> usize
-    ensures { result ≤ length buffer.new }
-{
-    let mut done = 0;
-    while done < buffer.len() {
-        match input.read(&mut buffer[done..]) {
-            Ok(n) if n > 0 => done += n,
-            _ => return done,
-        }
-    }
-    done
 }
 
 fn main(rt: HostRuntime) -> io::Result<()> {

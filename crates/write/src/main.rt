@@ -8,7 +8,8 @@ ghost use Rattle.std.specs.Prelude.{◌≤◌, length};
 use lines::{Line, NOT_A_NUMBER, TOO_FEW_NUMBERS, TOO_LARGE, UNKNOWN_STEP, read_line};
 use schedule::writing::write_field;
 use schedule::{MOST_BYTES, Numbers, count_of};
-use std::io::{ErrorKind, Read, Stdin};
+use std::io::ErrorKind;
+use streams::read_full;
 
 // A text has at most so many bytes: what a schedule of 65,536 bytes is listed as always fits, at 29 bytes for 11 at the most.
 const MOST_TEXT: usize = 262144;
@@ -146,20 +147,6 @@ fn write_schedule(rt: &(impl Print + Eprint), text: &[u8]) {
             _ => {}
         }
     }
-}
-
-// Reads until the buffer is full, the input ends or a read fails: how many bytes there are at the start of the buffer.
-fn read_full(mut input: Stdin, buffer: &mut [u8]) -> usize
-    ensures { result ≤ length buffer.new }
-{
-    let mut done = 0;
-    while done < buffer.len() {
-        match input.read(&mut buffer[done..]) {
-            Ok(n) if n > 0 => done += n,
-            _ => return done,
-        }
-    }
-    done
 }
 
 fn main(rt: HostRuntime) {

@@ -2,8 +2,8 @@
 // reused only after it has ended, so that it reads -0330 to the last. Each line says what a step answered, or which ZONE characters a task reads.
 #![tactic(auto)]
 
-use libc::STDOUT_FILENO;
 use numbers::{Block, Slot, Task};
+use std::io;
 use zones::requests::Request;
 
 const LOGGER: Task = Task(0);
@@ -34,47 +34,60 @@ fn put(room: &mut [u8; 32], block: u32, bytes: &[u8; 8]) {
 }
 
 // One line: words, and a number below 10.
-fn say(words: &[u8], number: u32) {
-    let digit = if number < 10 { 48 + number as u8 } else { 63 };
-    io::write_all(STDOUT_FILENO, words);
-    io::write_all(STDOUT_FILENO, &[digit, 10]);
+fn say(rt: &impl Print, words: &str, number: u32) -> io::Result<()> {
+    if number < 10 {
+        println!(rt; "{words}{number}")
+    } else {
+        println!(rt; "{words}?")
+    }
 }
 
 // One line: who reads, the ZONE characters of the block's record, and its name, which is written from where it lies in the room.
-fn tell<'a>(who: &[u8], table: &'a [u8; 248], room: &'a [u8; 32], block: u32) {
+fn tell(
+    rt: &impl Print,
+    who: &str,
+    table: &[u8; 248],
+    room: &[u8; 32],
+    block: u32,
+) -> io::Result<()> {
     let request = Request::Block(Block(block));
     let part = zones::requests::record(table, room, request);
-    io::write_all(STDOUT_FILENO, who);
+    print!(rt; "{who}")?;
     if part.len() != 8 {
-        io::write_all(STDOUT_FILENO, b"no record\n");
-        return;
+        return println!(rt; "no record");
     }
     let mut zone = [0u8; 5];
     zone_text::write_zone(
         zones::requests::minutes(table, room, request).minutes,
         &mut zone,
     );
-    io::write_all(STDOUT_FILENO, &zone);
-    io::write_all(STDOUT_FILENO, b" ");
-    io::write_all(STDOUT_FILENO, &part[2..8]);
-    io::write_all(STDOUT_FILENO, b"\n");
+    rt.write_all(&zone)?;
+    print!(rt; " ")?;
+    rt.write_all(&part[2..8])?;
+    println!(rt)
 }
 
 // The desk makes a block, writes the record into its room, and shows it in the slot in place of the old one. The value is its number.
-fn show(table: &mut [u32; 33], room: &mut [u8; 32], old: u32, bytes: &[u8; 8]) -> u32 {
+fn show(
+    rt: &impl Print,
+    table: &mut [u32; 33],
+    room: &mut [u8; 32],
+    old: u32,
+    bytes: &[u8; 8],
+) -> io::Result<u32> {
     let made = reclaim::make(table, DESK).value();
     put(room, made, bytes);
     reclaim::swap(table, DESK, SLOT, Block(old), Block(made));
-    say(b"the desk shows block ", made);
-    made
+    say(rt, "the desk shows block ", made)?;
+    Ok(made)
 }
 
 // The logger looks and settles. The value is the block that it holds from now on.
-fn take(table: &mut [u32; 33]) -> u32 {
+fn take(rt: &impl Print, table: &mut [u32; 33]) -> io::Result<u32> {
     reclaim::look(table, LOGGER, SLOT);
     let held = reclaim::settle(table, LOGGER).value();
-    say(b"the logger settles on block ", held);
-    held
+    say(rt, "the logger settles on block ", held)?;
+    Ok(held)
 }
 
 // A task begins its operation, and ends it.
@@ -82,41 +95,51 @@ fn begin(table: &mut [u32; 33], task: Task) {
     reclaim::start(table, task);
 }
 
-fn finish(table: &mut [u32; 33], task: Task) {
+fn finish(rt: &impl Print, table: &mut [u32; 33], task: Task) -> io::Result<()> {
     reclaim::end(table, task);
-    say(b"an operation ends, of task ", task.0);
+    say(rt, "an operation ends, of task ", task.0)
 }
 
 // The desk retires a block that no slot names any more, and sweeps, which it may in any phase.
-fn retire(table: &mut [u32; 33], block: u32) {
+fn retire(rt: &impl Print, table: &mut [u32; 33], block: u32) -> io::Result<()> {
     let freed = reclaim::retire(table, DESK, Block(block)).value();
-    say(b"the desk retires its first block, blocks freed: ", freed);
+    say(
+        rt,
+        "the desk retires its first block, blocks freed: ",
+        freed,
+    )
 }
 
-fn sweep(table: &mut [u32; 33]) {
+fn sweep(rt: &impl Print, table: &mut [u32; 33]) -> io::Result<()> {
     let freed = reclaim::sweep(table, DESK).value();
-    say(b"the desk sweeps, blocks freed: ", freed);
+    say(rt, "the desk sweeps, blocks freed: ", freed)
 }
 
-fn main() {
+fn main(rt: HostRuntime) -> io::Result<()> {
     let fixed = zones::records::fixed_table();
     let mut room = [0u8; 32];
     let mut table = [0u32; 33];
     reclaim::open(&mut table, 2, 4, 1, 2, 1);
     begin(&mut table, DESK);
-    let first = show(&mut table, &mut room, 0, &MINUS_210);
+    let first = show(&rt, &mut table, &mut room, 0, &MINUS_210)?;
     begin(&mut table, LOGGER);
-    let held = take(&mut table);
-    tell(b"the logger reads ", &fixed, &room, held);
-    let next = show(&mut table, &mut room, first, &PLUS_210);
-    retire(&mut table, first);
-    tell(b"the desk reads ", &fixed, &room, next);
-    finish(&mut table, DESK);
-    sweep(&mut table);
-    tell(b"the slow logger still reads ", &fixed, &room, held);
-    finish(&mut table, LOGGER);
-    sweep(&mut table);
+    let held = take(&rt, &mut table)?;
+    tell(&rt, "the logger reads ", &fixed, &room, held)?;
+    let next = show(&rt, &mut table, &mut room, first, &PLUS_210)?;
+    retire(&rt, &mut table, first)?;
+    tell(&rt, "the desk reads ", &fixed, &room, next)?;
+    finish(&rt, &mut table, DESK)?;
+    sweep(&rt, &mut table)?;
+    tell(&rt, "the slow logger still reads ", &fixed, &room, held)?;
+    finish(&rt, &mut table, LOGGER)?;
+    sweep(&rt, &mut table)?;
     begin(&mut table, DESK);
-    let again = show(&mut table, &mut room, next, &PLUS_210);
-    tell(b"its room, reused only now, reads ", &fixed, &room, again);
+    let again = show(&rt, &mut table, &mut room, next, &PLUS_210)?;
+    tell(
+        &rt,
+        "its room, reused only now, reads ",
+        &fixed,
+        &room,
+        again,
+    )
 }

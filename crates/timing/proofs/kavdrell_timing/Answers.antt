@@ -1,4 +1,4 @@
-use Rattle.std.proofs.Common.{rules, arith}
+use Rattle.std.proofs.Common.{arith}
 use Rattle.schedule.proofs.Stands.{stands}
 use Rattle.timing.proofs.kavdrell_timing.Goals as goal
 

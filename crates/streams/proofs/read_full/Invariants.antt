@@ -1,6 +1,6 @@
--- `list::read_full`: fewer bytes of the buffer are left after each read. Assumes nothing.
+-- `streams::read_full`: fewer bytes of the buffer are left after each read. Assumes nothing.
 use Rattle.std.proofs.Common.{◌-◌, ◌≤◌, length}
-use Rattle.list.proofs.read_full.Given as goal
+use Rattle.streams.proofs.read_full.Given as goal
 
 abbrev pub invariant-loop-done : goal.invariant-loop-done
 invariant-loop-done l = l.done ≤ length l.buffer
