@@ -3,7 +3,7 @@
 // was read.
 #![tactic(auto)]
 
-ghost use Rattle.std.specs.Prelude.{◌≤◌, length};
+ghost use Rattle.std.specs.Prelude.{◌≡◌, ℕ, ◌≢◌, ◌<◌, ◌≤◌, length, slice_index};
 
 use lines::{Line, NOT_A_NUMBER, TOO_FEW_NUMBERS, TOO_LARGE, UNKNOWN_STEP, read_line};
 use schedule::writing::write_field;
@@ -103,11 +103,15 @@ fn line_end(text: &[u8], at: usize) -> usize
     requires { at ≤ length text.now }
     ensures from { at ≤ result }
     ensures within { result ≤ length text.now }
+    ensures before { (k : ℕ) → at ≤ k → k < result → slice_index text.now k ≢ 10 }
+    ensures found { result < length text.now → slice_index text.now result ≡ 10 }
 {
-    match text[at..].iter().position(|byte| *byte == NEWLINE) {
-        Some(before) => at + before,
-        None => text.len(),
+    for end in at..text.len() {
+        if text[end] == NEWLINE {
+            return end;
+        }
     }
+    text.len()
 }
 
 // Takes the lines of a text one after another.
