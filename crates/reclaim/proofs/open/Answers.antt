@@ -1,4 +1,4 @@
-use Rattle.std.proofs.Common.{sym, ◌∙◌}
+use Rattle.std.proofs.Common.{arith, sym, ◌∙◌}
 use Rattle.reclaim.proofs.Tables.{open_bad_size, open_bad_length, open_done}
 use Rattle.reclaim.proofs.open.Goals as goal
 
@@ -7,9 +7,9 @@ returns-then-not-sizes_sound c = open_bad_size _ _ _ _ _ _ (sym c.sizes_sound.en
 
 pub returns-then-table-length : goal.returns-then-table-length
 returns-then-table-length c =
-    open_bad_length _ _ _ _ _ _ (sym c.sizes_sound.ensures ∙ c.if-not-sizes_sound.false) (λ z. c.if-table-length.true (z ∙ sym c.length_for-length.ensures))
+    open_bad_length _ _ _ _ _ _ (sym c.sizes_sound.ensures ∙ c.if-not-sizes_sound.false) (λ z. omega arith)
 
 pub returns : goal.returns
 returns c =
-    open_done _ _ _ _ _ _ (sym c.sizes_sound.ensures ∙ c.if-not-sizes_sound.false) (c.if-table-length.false ∙ c.length_for-length.ensures) _ _
+    open_done _ _ _ _ _ _ (sym c.sizes_sound.ensures ∙ c.if-not-sizes_sound.false) (omega arith) _ _
     c.length_for-length.ensures c.put_opened.ensures

@@ -1,4 +1,4 @@
-use Rattle.std.proofs.Common.{ℕ, refl, ap, ◌∙◌}
+use Rattle.std.proofs.Common.{ℕ, arith, refl, ap, ◌∙◌}
 use Rattle.rules.specs.OnTable.{result_of}
 use Rattle.work.specs.declared.entering.Asked.{Asked}
 use Rattle.work.proofs.Entries.{out}
@@ -11,7 +11,7 @@ returns-in-Out c = out c.args.table.now c.args.task.0 Asked.Looking _ c.in-Out.e
 pub returns-then-r-now : goal.returns-then-r-now
 returns-then-r-now c =
     ap (λ (v : ℕ). result_of 0 v c.put_task.new.table) c.candidate-candidate.ensures
-    ∙ settle_done_lem _ _ _ c.in-At.ensures _ _ _ c.epoch-now.ensures c.settled.ensures c.put_task.ensures c.if-r-now.true
+    ∙ settle_done_lem _ _ _ c.in-At.ensures _ _ _ c.epoch-now.ensures c.settled.ensures c.put_task.ensures (omega arith)
 
 pub returns-else-r-now : goal.returns-else-r-now
-returns-else-r-now c = settle_again _ _ _ c.in-At.ensures _ _ _ c.epoch-now.ensures c.settled.ensures c.put_task.ensures c.if-r-now.false
+returns-else-r-now c = settle_again _ _ _ c.in-At.ensures _ _ _ c.epoch-now.ensures c.settled.ensures c.put_task.ensures (λ z. omega arith)
