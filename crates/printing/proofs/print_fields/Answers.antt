@@ -1,3 +1,4 @@
+-- `printing::print_fields`: a whole field is carried out, and the next place is behind it, within the schedule. Assumes nothing.
 use Rattle.std.proofs.Common.{arith}
 use Rattle.schedule.proofs.Stands.{stands}
 use Rattle.printing.proofs.print_fields.Goals as goal

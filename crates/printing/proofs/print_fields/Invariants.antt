@@ -1,3 +1,4 @@
+-- `printing::print_fields`: the buffer is ready, and every field is at least three bytes, so that fewer are left after each. Assumes nothing.
 use Rattle.std.proofs.Common.{◌≤◌, ◌-◌, ◌+◌, ◌*◌, length}
 use Rattle.runner.specs.Running.{Ready, held}
 use Rattle.printing.proofs.print_fields.Given as goal

@@ -1,3 +1,4 @@
+-- `reclaim::open`: a size outside its limits, another length, or done. Assumes nothing.
 use Rattle.std.proofs.Common.{arith, sym, ◌∙◌}
 use Rattle.reclaim.proofs.Tables.{open_bad_size, open_bad_length, open_done}
 use Rattle.reclaim.proofs.open.Goals as goal

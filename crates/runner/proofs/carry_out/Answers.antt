@@ -1,3 +1,4 @@
+-- `runner::carry_out`: an open or another step, and the buffer is ready after it. Assumes nothing.
 use borrow.Author.Tests.{eq-eqb, ne_eqb}
 use Rattle.runner.specs.Running.{call_of}
 use Rattle.runner.proofs.KeptReady.{and_ready}

@@ -1,3 +1,4 @@
+-- `runner::open`: an open on the words that it is lent, accepted or refused. Assumes nothing.
 use Rattle.std.proofs.Common.{sym, ◌∙◌}
 use Rattle.runner.proofs.Carrying.{accepted, refused}
 use Rattle.runner.proofs.open.Goals as goal

@@ -1,3 +1,4 @@
+-- `soundness::blocks_sound`: the blocks from the first on decide, and each block after the ones before it. Assumes nothing.
 use Rattle.std.proofs.Common.{rules, arith, refl, sym, ◌∙◌, length}
 use Rattle.table.specs.State.{free_block}
 use Rattle.table.specs.Soundness.{sound_block, sound_blocks}

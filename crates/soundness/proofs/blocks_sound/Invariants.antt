@@ -1,3 +1,4 @@
+-- `soundness::blocks_sound`: what was found so far and the blocks that are left decide. Assumes nothing.
 use Rattle.std.proofs.Common.{◌≡◌, ◌≤◌, ◌-◌, ◌&&◌, length, drop}
 use Rattle.table.specs.Lists.{all}
 use Rattle.table.specs.Soundness.{sound_block, sound_blocks}

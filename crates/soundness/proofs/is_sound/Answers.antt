@@ -1,3 +1,4 @@
+-- `soundness::is_sound`: another length, or what the four tests say. Assumes nothing.
 use Rattle.std.proofs.Common.{rules, ◌≡◌, true, sym, ◌∙◌}
 use Rattle.table.specs.Soundness.{sound_state}
 use Rattle.table.specs.Words.{is_exact, sound}

@@ -1,3 +1,4 @@
+-- `soundness::numbers_sound`: each number tested is the one that the state says. Assumes nothing.
 use Rattle.table.specs.Soundness.{sound_numbers}
 use Rattle.soundness.proofs.numbers_sound.Goals as goal
 

@@ -1,3 +1,4 @@
+-- `soundness::slot_sound`: a number above the last block names no shown one. Assumes nothing.
 use Rattle.std.proofs.Common.{◌≡◌, false, arith}
 use Rattle.table.specs.State.{is_shown, block_of}
 use Rattle.table.specs.Words.{state_of}

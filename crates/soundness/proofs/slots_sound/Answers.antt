@@ -1,3 +1,4 @@
+-- `soundness::slots_sound`: the slots from the first on decide. Assumes nothing.
 use Rattle.std.proofs.Common.{rules, refl}
 use Rattle.table.specs.Soundness.{sound_slots}
 use Rattle.soundness.proofs.slots_sound.Goals as goal

@@ -1,3 +1,4 @@
+-- `soundness::slots_sound`: what was found so far and the slots that are left decide. Assumes nothing.
 use Rattle.std.proofs.Common.{◌≡◌, ◌≤◌, ◌-◌, ◌&&◌, drop}
 use Rattle.table.specs.Lists.{all}
 use Rattle.table.specs.Soundness.{sound_slot, sound_slots}

@@ -1,3 +1,4 @@
+-- `soundness::tasks_sound`: the tasks from the first on decide. Assumes nothing.
 use Rattle.std.proofs.Common.{rules, refl}
 use Rattle.table.specs.Soundness.{sound_tasks}
 use Rattle.soundness.proofs.tasks_sound.Goals as goal

@@ -1,3 +1,4 @@
+-- `soundness::tasks_sound`: what was found so far and the tasks that are left decide. Assumes nothing.
 use Rattle.std.proofs.Common.{◌≡◌, ◌≤◌, ◌-◌, ◌&&◌, length, drop}
 use Rattle.table.specs.Lists.{all}
 use Rattle.table.specs.Soundness.{sound_task, sound_tasks}

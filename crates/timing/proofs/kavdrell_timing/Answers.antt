@@ -1,3 +1,4 @@
+-- `timing::kavdrell_timing`: a whole field is carried out, and the next place is behind it, within the schedule. Assumes nothing.
 use Rattle.std.proofs.Common.{arith}
 use Rattle.schedule.proofs.Stands.{stands}
 use Rattle.timing.proofs.kavdrell_timing.Goals as goal

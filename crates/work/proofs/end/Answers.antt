@@ -1,3 +1,4 @@
+-- `work::end`: refused on entering, an unshown block, or done. Assumes nothing.
 use Rattle.std.proofs.Common.{arith, refl}
 use Rattle.work.specs.declared.entering.Asked.{Asked}
 use Rattle.work.proofs.Entries.{out}

@@ -1,3 +1,4 @@
+-- `work::make`: refused on entering, none free, all made or the last epoch passed, or done. Assumes nothing.
 use Rattle.std.proofs.Common.{arith, refl, sym, ◌∙◌}
 use Rattle.table.proofs.Sound.{exact, facts}
 use Rattle.work.specs.declared.entering.Asked.{Asked}

@@ -1,3 +1,4 @@
+-- `work::retire`: refused on entering, no such block, not in hand, still named, or done. Assumes nothing.
 use Rattle.std.proofs.Common.{◌≡◌, ◌≤◌, ◌||◌, ℕ, Bool, false, nat_lt, arith, refl, sym, ap, ◌∙◌, ◌==◌}
 use borrow.Author.Tests.{eqb-false, ltb-false}
 use Rattle.table.proofs.Tests.{neither}

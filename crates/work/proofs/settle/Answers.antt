@@ -1,3 +1,4 @@
+-- `work::settle`: refused on entering, the candidate handed out, or look again. Assumes nothing.
 use Rattle.std.proofs.Common.{ℕ, arith, refl, ap, ◌∙◌}
 use Rattle.rules.specs.OnTable.{result_of}
 use Rattle.work.specs.declared.entering.Asked.{Asked}

@@ -1,3 +1,4 @@
+-- `work::start`: refused on entering, or done. Assumes nothing.
 use Rattle.std.proofs.Common.{refl}
 use Rattle.work.specs.declared.entering.Asked.{Asked}
 use Rattle.work.proofs.Entries.{out}

@@ -1,3 +1,4 @@
+-- `work::swap`: refused on entering, no such slot or block, not to be shown, another block in the slot, or done. Assumes nothing.
 use Rattle.std.proofs.Common.{◌≡◌, ◌||◌, ℕ, Bool, nat_lt, arith, refl, sym, ap, ◌∙◌}
 use Rattle.rules.specs.OnTable.{result_of}
 use Rattle.work.specs.declared.entering.Asked.{Asked}

@@ -1,3 +1,4 @@
+-- `work::sweep`: refused on entering, or done. Assumes nothing.
 use Rattle.std.proofs.Common.{refl, ap₂, ◌∙◌}
 use Rattle.rules.specs.OnTable.{result_of}
 use Rattle.work.specs.declared.entering.Asked.{Asked}

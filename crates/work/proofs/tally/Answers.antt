@@ -1,3 +1,4 @@
+-- `work::tally`: no such state, or the number of blocks in it. Assumes nothing.
 use Rattle.std.proofs.Common.{arith}
 use Rattle.work.proofs.Cases.{tally_refused, tally_done_lem}
 use Rattle.work.proofs.tally.Goals as goal

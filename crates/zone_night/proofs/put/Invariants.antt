@@ -1,3 +1,4 @@
+-- `zone_night::put`: the loop stays within the record's eight bytes. Assumes nothing.
 use Rattle.std.proofs.Common.{◌-◌, ◌≤◌}
 use Rattle.zone_night.proofs.put.Given as goal
 

@@ -1,3 +1,4 @@
+-- `storing::making::put_made`: the epoch, then the task, then the block. Assumes nothing.
 use Rattle.std.proofs.Common.{◌≡◌, ◌≤◌, ◌<◌, ℕ, List, sym, ap, ap₂, ◌∙◌, subst, length}
 use Rattle.table.specs.State.{State, TaskRow, BlockRow, task_of, with_epoch, with_task, with_block}
 use Rattle.table.specs.Words.{state_of, words}

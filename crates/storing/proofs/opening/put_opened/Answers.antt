@@ -1,3 +1,4 @@
+-- `storing::opening::put_opened`: a blank table whose tasks are put to rest. Assumes nothing.
 use Rattle.std.proofs.Common.{ap, ◌∙◌, map}
 use Rattle.numbers.specs.Epochs.{idle_mark}
 use Rattle.table.specs.State.{State, with_interval, with_tasks}

@@ -1,3 +1,4 @@
+-- `storing::retiring::put_retired`: the block retired, and swept after it where a sweep follows. Assumes nothing.
 use Rattle.std.proofs.Common.{◌≡◌, ◌≤◌, ℕ, Bool, List, sym, ap, ap₂, ◌∙◌, subst}
 use Rattle.table.specs.State.{State, BlockRow, block_of, with_block}
 use Rattle.table.specs.Words.{state_of, words}

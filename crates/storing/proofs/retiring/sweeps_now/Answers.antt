@@ -1,3 +1,4 @@
+-- `storing::retiring::sweeps_now`: the number of retired blocks, divisible or not. Assumes nothing.
 use Rattle.std.proofs.Common.{ap₂}
 use Rattle.rules.specs.Steps.{divisible, retired_count}
 use Rattle.storing.proofs.retiring.sweeps_now.Goals as goal

@@ -1,3 +1,4 @@
+-- `storing::showing::put_shown`: the slot, then the block that it gets. Assumes nothing.
 use Rattle.std.proofs.Common.{◌≤◌, arith, sym, ap, ◌∙◌, subst, length}
 use Rattle.table.specs.State.{State, block_of, with_block}
 use Rattle.table.specs.Words.{words}

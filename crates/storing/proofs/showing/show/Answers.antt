@@ -1,3 +1,4 @@
+-- `storing::showing::show`: a block that is not made stays as it is. Assumes nothing.
 use Rattle.std.proofs.Common.{ap, ◌∙◌}
 use Rattle.table.specs.State.{BlockRow, with_block}
 use Rattle.table.specs.Words.{state_of, words}

@@ -1,3 +1,4 @@
+-- `table::words::block_at`: the words read are the block's. Assumes nothing.
 use Rattle.table.proofs.Places.{block_read}
 use Rattle.table.proofs.words.block_at.Goals as goal
 

@@ -1,3 +1,4 @@
+-- `table::words::clear`: the words passed are 0, and those that are left as they were. Assumes nothing.
 use Rattle.std.proofs.Common.{length, ◌-◌, ◌≡◌, ◌≤◌, ◌++◌, drop, replicate}
 use Rattle.table.proofs.words.clear.Given as goal
 

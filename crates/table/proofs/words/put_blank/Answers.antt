@@ -1,3 +1,4 @@
+-- `table::words::put_blank`: zeros, and the sizes and rates stored among them, are a blank table. Assumes nothing.
 use Rattle.std.proofs.Common.{ℕ, ap, ◌∙◌, replicate}
 use Rattle.table.proofs.Blanks.{blank-words}
 use Rattle.table.proofs.words.put_blank.Goals as goal

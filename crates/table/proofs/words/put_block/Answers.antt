@@ -1,3 +1,4 @@
+-- `table::words::put_block`: the words stored are the block put anew. Assumes nothing.
 use Rattle.table.proofs.Places.{block_put}
 use Rattle.table.proofs.words.put_block.Goals as goal
 

@@ -1,3 +1,4 @@
+-- `table::words::put_interval`: the two words stored are the task's interval put anew. Assumes nothing.
 use Rattle.table.proofs.Places.{interval_put}
 use Rattle.table.proofs.words.put_interval.Goals as goal
 

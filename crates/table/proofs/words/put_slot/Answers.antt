@@ -1,3 +1,4 @@
+-- `table::words::put_slot`: the word stored is the slot put anew. Assumes nothing.
 use Rattle.table.proofs.Places.{slot_put}
 use Rattle.table.proofs.words.put_slot.Goals as goal
 

@@ -1,3 +1,4 @@
+-- `table::words::put_task`: the words stored are the task put anew, with its phase in two of them. Assumes nothing.
 use Rattle.table.proofs.Places.{task_put}
 use Rattle.table.proofs.words.put_task.Goals as goal
 

@@ -1,3 +1,4 @@
+-- `table::words::slot_at`: the word read is the slot's. Assumes nothing.
 use Rattle.table.proofs.Places.{slot_read}
 use Rattle.table.proofs.words.slot_at.Goals as goal
 

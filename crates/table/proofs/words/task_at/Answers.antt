@@ -1,3 +1,4 @@
+-- `table::words::task_at`: a sound table's task is in a phase that a record can say. Assumes nothing.
 use Rattle.std.proofs.Common.{◌≤◌, ◌<◌, ◌≡◌, subst, sym}
 use Rattle.table.specs.State.{TaskRow}
 use Rattle.table.proofs.Sound.{exact, facts, spoken}

@@ -1,3 +1,4 @@
+-- `table::words::task_words`: the words read are the task's. Assumes nothing.
 use Rattle.table.proofs.Places.{task_read}
 use Rattle.table.proofs.words.task_words.Goals as goal
 

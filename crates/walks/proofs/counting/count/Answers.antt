@@ -1,3 +1,4 @@
+-- `walks::counting::count`: one block more is counted. Assumes nothing.
 use Rattle.std.proofs.Common.{◌≡◌, ℕ, ◌+◌, cond, arith, sym, ap, ◌∙◌, drop}
 use Rattle.table.specs.Lists.{count}
 use Rattle.table.specs.State.{BlockRow, free_block}

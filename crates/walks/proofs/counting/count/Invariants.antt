@@ -1,3 +1,4 @@
+-- `walks::counting::count`: what was found and what is wanted among the blocks left are all that is wanted. Assumes nothing.
 use Rattle.std.proofs.Common.{◌≡◌, ◌+◌, ◌-◌, ◌≤◌, drop}
 use Rattle.table.specs.Lists.{count}
 use Rattle.table.specs.Words.{state_of}

@@ -1,3 +1,4 @@
+-- `walks::finding::lowest_free`: the search goes on past a block that is not free. Assumes nothing.
 use Rattle.std.proofs.Common.{◌≡◌, ◌+◌, false, add-one, arith, get_or, ap, ◌∙◌}
 use borrow.Author.Tests.{ne_eqb}
 use Rattle.table.specs.State.{BlockRow, free_block, is_free}

@@ -1,3 +1,4 @@
+-- `walks::finding::lowest_free`: the first free block is among those that are left. Assumes nothing.
 use Rattle.std.proofs.Common.{◌≡◌, ◌+◌, ◌-◌, ◌≤◌, drop}
 use Rattle.table.specs.Lists.{first}
 use Rattle.table.specs.State.{is_free}

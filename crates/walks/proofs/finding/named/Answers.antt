@@ -1,3 +1,4 @@
+-- `walks::finding::named`: the slots from the first on decide. Assumes nothing.
 use Rattle.std.proofs.Common.{rules, refl}
 use Rattle.rules.specs.Steps.{named}
 use Rattle.walks.proofs.finding.named.Goals as goal

@@ -1,3 +1,4 @@
+-- `walks::finding::named`: the slots that are left decide. Assumes nothing.
 use Rattle.std.proofs.Common.{◌≡◌, ◌-◌, ◌≤◌, nat_eq, drop}
 use Rattle.table.specs.Lists.{some}
 use Rattle.table.specs.Words.{state_of}

@@ -1,3 +1,4 @@
+-- `walks::idling::put_idle`: one task more is put to rest. Assumes nothing.
 use Rattle.std.proofs.Common.{◌≡◌, ℕ, arith, sym, ap, ◌∙◌, List, length}
 use Rattle.numbers.specs.Epochs.{idle_mark}
 use Rattle.table.specs.State.{State, TaskRow, idle_task, task_of, with_interval, with_tasks, with_task}

@@ -1,3 +1,4 @@
+-- `walks::idling::put_idle`: the tasks passed are at rest, and those that are left as they were. Assumes nothing.
 use Rattle.std.proofs.Common.{◌≡◌, ◌-◌, ◌≤◌}
 use Rattle.numbers.specs.Epochs.{idle_mark}
 use Rattle.table.specs.State.{with_interval, with_tasks}

@@ -1,3 +1,4 @@
+-- `walks::sweeping::frees`: retired by the task and unmet, or not retired by it. Assumes nothing.
 use Rattle.rules.specs.Sweeping.{frees}
 use Rattle.walks.proofs.sweeping.frees.Goals as goal
 

@@ -1,3 +1,4 @@
+-- `walks::sweeping::sweep_block`: a block that is not freed stays as it is. Assumes nothing.
 use Rattle.std.proofs.Common.{◌≡◌, false, arith, sym, ap, ◌∙◌}
 use Rattle.table.specs.State.{block_of}
 use Rattle.table.specs.Words.{state_of}

@@ -1,3 +1,4 @@
+-- `walks::sweeping::sweep_blocks`: one block more is swept and counted. Assumes nothing.
 use Rattle.std.proofs.Common.{◌≡◌, ℕ, ◌+◌, ◌<◌, cond, arith, sym, ap, ◌∙◌, List, length, get_or, drop}
 use Rattle.table.specs.Lists.{count}
 use Rattle.table.specs.State.{State, BlockRow, block_of, free_block, with_blocks, with_block}

@@ -1,3 +1,4 @@
+-- `walks::sweeping::sweep_blocks`: the blocks passed are swept and counted, and those that are left as they were. Assumes nothing.
 use Rattle.std.proofs.Common.{◌≡◌, ◌+◌, ◌-◌, ◌≤◌, drop}
 use Rattle.table.specs.Lists.{count}
 use Rattle.table.specs.State.{with_blocks}

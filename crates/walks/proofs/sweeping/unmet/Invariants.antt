@@ -1,3 +1,4 @@
+-- `walks::sweeping::unmet`: the tasks that are left decide. Assumes nothing.
 use Rattle.std.proofs.Common.{◌≡◌, ◌-◌, ◌≤◌, not, drop}
 use Rattle.table.specs.Lists.{some}
 use Rattle.table.specs.State.{met_by}

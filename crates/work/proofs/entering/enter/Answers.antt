@@ -1,3 +1,4 @@
+-- `work::entering::enter`: no such task, another phase, or the task's record. Assumes nothing.
 use Rattle.std.proofs.Common.{sym, ap, ◌∙◌, arith}
 use Rattle.rules.specs.OnTable.{in_words}
 use Rattle.work.specs.Entering.{asks}
