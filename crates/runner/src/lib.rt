@@ -84,7 +84,7 @@ fn step(table: &mut [u32], tag: u8, n: Numbers) -> Answer
 }
 
 // A step that is not open, lent the table; before an accepted open there is none.
-#[tactic(auto, using(crate::proofs::Carrying::no_table, crate::proofs::Carrying::stepped))]
+#[tactic(auto, using(crate::proofs::Carrying::no_table))]
 fn step_on_table(buffer: &mut [u32], used: usize, tag: u8, n: Numbers) -> Answer
     requires { Ready (held buffer.old used) × (2 ≤ tag) × (tag ≤ 10) }
     ensures { ran (record { answer = result; used = used }) buffer.new ≡ carried (held buffer.old used) (calls (step_of tag n)) }
