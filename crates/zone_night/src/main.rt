@@ -4,6 +4,7 @@
 
 use numbers::{Block, Slot, Task};
 use std::io;
+use std::io::ErrorKind;
 use zones::requests::Request;
 
 const LOGGER: Task = Task(0);
@@ -115,31 +116,40 @@ fn sweep(rt: &impl Print, table: &mut [u32; 33]) -> io::Result<()> {
     say(rt, "the desk sweeps, blocks freed: ", freed)
 }
 
-fn main(rt: HostRuntime) -> io::Result<()> {
+// The night, line by line.
+fn night(rt: &impl Print) -> io::Result<()> {
     let fixed = zones::records::fixed_table();
     let mut room = [0u8; 32];
     let mut table = [0u32; 33];
     reclaim::open(&mut table, 2, 4, 1, 2, 1);
     begin(&mut table, DESK);
-    let first = show(&rt, &mut table, &mut room, 0, &MINUS_210)?;
+    let first = show(rt, &mut table, &mut room, 0, &MINUS_210)?;
     begin(&mut table, LOGGER);
-    let held = take(&rt, &mut table)?;
-    tell(&rt, "the logger reads ", &fixed, &room, held)?;
-    let next = show(&rt, &mut table, &mut room, first, &PLUS_210)?;
-    retire(&rt, &mut table, first)?;
-    tell(&rt, "the desk reads ", &fixed, &room, next)?;
-    finish(&rt, &mut table, DESK)?;
-    sweep(&rt, &mut table)?;
-    tell(&rt, "the slow logger still reads ", &fixed, &room, held)?;
-    finish(&rt, &mut table, LOGGER)?;
-    sweep(&rt, &mut table)?;
+    let held = take(rt, &mut table)?;
+    tell(rt, "the logger reads ", &fixed, &room, held)?;
+    let next = show(rt, &mut table, &mut room, first, &PLUS_210)?;
+    retire(rt, &mut table, first)?;
+    tell(rt, "the desk reads ", &fixed, &room, next)?;
+    finish(rt, &mut table, DESK)?;
+    sweep(rt, &mut table)?;
+    tell(rt, "the slow logger still reads ", &fixed, &room, held)?;
+    finish(rt, &mut table, LOGGER)?;
+    sweep(rt, &mut table)?;
     begin(&mut table, DESK);
-    let again = show(&rt, &mut table, &mut room, next, &PLUS_210)?;
+    let again = show(rt, &mut table, &mut room, next, &PLUS_210)?;
     tell(
-        &rt,
+        rt,
         "its room, reused only now, reads ",
         &fixed,
         &room,
         again,
     )
+}
+
+fn main(rt: HostRuntime) -> io::Result<()> {
+    match night(&rt) {
+        // A reader that has left wants no more.
+        Err(e) if e.kind() == ErrorKind::BrokenPipe => Ok(()),
+        ended => ended,
+    }
 }
