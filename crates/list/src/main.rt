@@ -6,8 +6,7 @@
 use lines::names::put_name;
 use schedule::{Field, MOST_BYTES, Numbers, count_of, field_at};
 use std::io;
-use std::io::ErrorKind;
-use streams::read_full;
+use streams::{read_full, unless_left};
 
 fn print_name(rt: &impl Print, tag: u8) -> io::Result<()> {
     let mut name = [0u8; 6];
@@ -75,9 +74,5 @@ fn main(rt: HostRuntime) -> io::Result<()> {
     if n > MOST_BYTES {
         return eprintln!(rt; "kind 24: the schedule is longer than 65536 bytes");
     }
-    match list_fields(&rt, &input[..n]) {
-        // A reader that has left wants no more.
-        Err(e) if e.kind() == ErrorKind::BrokenPipe => Ok(()),
-        ended => ended,
-    }
+    unless_left(list_fields(&rt, &input[..n]))
 }

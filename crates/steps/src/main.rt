@@ -3,16 +3,11 @@
 
 use printing::print_run;
 use std::io;
-use std::io::ErrorKind;
-use streams::read_full;
+use streams::{read_full, unless_left};
 
 fn main(rt: HostRuntime) -> io::Result<()> {
     // One byte more than a schedule may have, so that a longer one is seen to be longer.
     let mut input = [0u8; 65537];
     let n = read_full(rt.stdin(), &mut input);
-    match print_run(&rt, &input[..n]) {
-        // A reader that has left wants no more.
-        Err(e) if e.kind() == ErrorKind::BrokenPipe => Ok(()),
-        ended => ended,
-    }
+    unless_left(print_run(&rt, &input[..n]))
 }

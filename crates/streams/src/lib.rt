@@ -1,9 +1,11 @@
-// The programs' standard input, read whole into a buffer.
+// What the programs share of their standard streams: the input read whole, and how a program ends whose output failed.
 #![tactic(auto)]
 
-ghost use Rattle.std.specs.Prelude.{◌≤◌, length};
+ghost use Rattle.std.specs.Prelude.{◌≡◌, ◌≢◌, ◌≤◌, length, IfErr, IsOk};
+ghost use Rattle.std.specs.IoError.{error_kind};
 
-use std::io::{Read, Stdin};
+use std::io;
+use std::io::{ErrorKind, Read, Stdin};
 
 // Reads until the buffer is full, the input ends or a read fails: how many bytes there are at the start of the buffer.
 pub fn read_full(mut input: Stdin, buffer: &mut [u8]) -> usize
@@ -17,4 +19,16 @@ pub fn read_full(mut input: Stdin, buffer: &mut [u8]) -> usize
         }
     }
     done
+}
+
+// As the output ended, but well where its reader has left, which wants no more.
+pub fn unless_left(ended: io::Result<()>) -> io::Result<()>
+    ensures left { IfErr ended (λ e. error_kind e ≡ ErrorKind.BrokenPipe → IsOk result) }
+    ensures stays { IfErr ended (λ e. error_kind e ≢ ErrorKind.BrokenPipe → result ≡ ended) }
+    ensures well { IsOk ended → IsOk result }
+{
+    match ended {
+        Err(e) if e.kind() == ErrorKind::BrokenPipe => Ok(()),
+        ended => ended,
+    }
 }

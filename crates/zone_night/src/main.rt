@@ -4,7 +4,7 @@
 
 use numbers::{Block, Slot, Task};
 use std::io;
-use std::io::ErrorKind;
+use streams::unless_left;
 use zones::requests::Request;
 
 const LOGGER: Task = Task(0);
@@ -147,9 +147,5 @@ fn night(rt: &impl Print) -> io::Result<()> {
 }
 
 fn main(rt: HostRuntime) -> io::Result<()> {
-    match night(&rt) {
-        // A reader that has left wants no more.
-        Err(e) if e.kind() == ErrorKind::BrokenPipe => Ok(()),
-        ended => ended,
-    }
+    unless_left(night(&rt))
 }
