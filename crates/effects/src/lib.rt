@@ -6,19 +6,22 @@ ghost use Rattle.table.specs.Records.{candidate_of, task_row, block_row};
 ghost use Rattle.rules.specs.Effects.{begun, looking, settled, counted, ended, made, shown, retired, freed};
 ghost use Rattle.rules.specs.Steps.{most_makes};
 
-use numbers::{Block, Epoch, Task};
-use table::records::{BlockRecord, Phase, TaskRecord};
+use numbers::{Block, Epoch, Interval, Task};
+use table::records::{BlockRecord, BlockState, Phase, TaskRecord};
 
 // Start: an idle task, which has no candidate, is at work from this epoch on.
 pub fn begun(r: TaskRecord, now: Epoch) -> TaskRecord
     requires { candidate_of r.phase ≡ 0 }
     ensures { task_row result ≡ begun now.0 (task_row r) }
 {
-    TaskRecord {
+    let interval = Interval {
         lower: now,
         upper: now,
-        makes: r.makes,
+    };
+    TaskRecord {
+        interval,
         phase: Phase::Working,
+        ..r
     }
 }
 
@@ -26,13 +29,9 @@ pub fn begun(r: TaskRecord, now: Epoch) -> TaskRecord
 pub fn looking(r: TaskRecord, content: Block) -> TaskRecord
     ensures { task_row result ≡ looking content.0 (task_row r) }
 {
-    let lower = r.lower;
-    let upper = r.upper;
     TaskRecord {
-        lower,
-        upper,
-        makes: r.makes,
         phase: Phase::Looked(content),
+        ..r
     }
 }
 
@@ -40,12 +39,14 @@ pub fn looking(r: TaskRecord, content: Block) -> TaskRecord
 pub fn settled(r: TaskRecord, now: Epoch) -> TaskRecord
     ensures { task_row result ≡ settled now.0 (task_row r) }
 {
-    let lower = r.lower;
-    TaskRecord {
-        lower,
+    let interval = Interval {
         upper: now,
-        makes: r.makes,
+        ..r.interval
+    };
+    TaskRecord {
+        interval,
         phase: Phase::Working,
+        ..r
     }
 }
 
@@ -54,14 +55,9 @@ pub fn counted(r: TaskRecord) -> TaskRecord
     requires { r.makes < most_makes }
     ensures { task_row result ≡ counted (task_row r) }
 {
-    let lower = r.lower;
-    let upper = r.upper;
-    let phase = r.phase;
     TaskRecord {
-        lower,
-        upper,
         makes: r.makes + 1,
-        phase,
+        ..r
     }
 }
 
@@ -70,10 +66,9 @@ pub fn ended(r: TaskRecord) -> TaskRecord
     ensures { task_row result ≡ ended (task_row r) }
 {
     TaskRecord {
-        lower: Epoch::IDLE,
-        upper: Epoch::IDLE,
-        makes: r.makes,
+        interval: Interval::IDLE,
         phase: Phase::Idle,
+        ..r
     }
 }
 
@@ -82,7 +77,7 @@ pub fn made(task: Task, birth: Epoch) -> BlockRecord
     ensures { block_row result ≡ made task.0 birth.0 }
 {
     BlockRecord {
-        state: BlockRecord::MADE,
+        state: BlockState::MADE,
         task,
         birth,
         retire: Epoch(0),
@@ -93,13 +88,10 @@ pub fn made(task: Task, birth: Epoch) -> BlockRecord
 pub fn shown(b: BlockRecord) -> BlockRecord
     ensures { block_row result ≡ shown (block_row b) }
 {
-    let birth = b.birth;
-    let retire = b.retire;
     BlockRecord {
-        state: BlockRecord::SHOWN,
+        state: BlockState::SHOWN,
         task: Task(0),
-        birth,
-        retire,
+        ..b
     }
 }
 
@@ -107,12 +99,11 @@ pub fn shown(b: BlockRecord) -> BlockRecord
 pub fn retired(b: BlockRecord, task: Task, now: Epoch) -> BlockRecord
     ensures { block_row result ≡ retired task.0 now.0 (block_row b) }
 {
-    let birth = b.birth;
     BlockRecord {
-        state: BlockRecord::RETIRED,
+        state: BlockState::RETIRED,
         task,
-        birth,
         retire: now,
+        ..b
     }
 }
 
@@ -121,7 +112,7 @@ pub fn freed() -> BlockRecord
     ensures { block_row result ≡ freed }
 {
     BlockRecord {
-        state: BlockRecord::FREE,
+        state: BlockState::FREE,
         task: Task(0),
         birth: Epoch(0),
         retire: Epoch(0),

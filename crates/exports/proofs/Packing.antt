@@ -4,8 +4,7 @@ use mathlib.Core.Path.{◌≡◌, ap₂, ◌∙◌}
 use mathlib.Core.List.{List}
 use native.Mathlib.Omega.{arith}
 use Rattle.rules.specs.OnTable.{Result, result_of}
-use Rattle.work.specs.Answers.{kind_of, value_of, told}
-use Rattle.work.specs.declared.answers.Answer.{Answer}
+use Rattle.work.specs.Answers.{Answer, kind_of, value_of, told}
 use Rattle.exports.specs.Packed.{unpacked}
 
 pub says : (a : Answer) (n : ℕ) (t : List ℕ) (r : Result) → (n ≡ kind_of a * 4294967296 + value_of a) × (value_of a < 4294967296) → told a t ≡ r → unpacked n t ≡ r

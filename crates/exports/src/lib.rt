@@ -2,21 +2,26 @@
 // kind × 2^32 + value. And zone records: the minutes of one, and the characters of the Fortran ZONE argument. And a field of a schedule, written.
 #![tactic(auto)]
 
+pub mod written;
+
 ghost use Rattle.std.specs.Prelude.{◌≡◌, ◌+◌, ◌*◌, ◌<◌};
 ghost use Rattle.rules.specs.Steps.{start, look, settle, make, swap, retire, sweep, end, tally};
 ghost use Rattle.rules.specs.OnTable.{on_table, open_table};
 ghost use Rattle.work.specs.Answers.{kind_of, value_of};
 ghost use Rattle.schedule.specs.Writing.{outcome, field_write};
 ghost use Rattle.zone_text.specs.Zone.{written, zone_write, zone_read};
+ghost use Rattle.zone_text.specs.Said.{said};
 ghost use Rattle.zones.specs.Requests.{lent, hour_part, block_part};
 ghost use Rattle.zones.specs.Records.{minutes_of};
 ghost use Rattle.exports.specs.Packed.{unpacked};
+ghost use Rattle.exports.specs.Zones.{given};
 
 use numbers::{Block, Slot, Task};
-use schedule::writing::Written;
-use work::answers::Answer;
-use zone_text::ZoneMinutes;
-use zones::requests::Request;
+use table::sizes::Sizes;
+use work::answers::{Answer, kind_of, value_of};
+use written::Written;
+use zone_text::ZoneError;
+use zones::requests::{Request, Stores};
 
 // One more than the largest value.
 const VALUES: u64 = 4294967296;
@@ -24,14 +29,21 @@ const VALUES: u64 = 4294967296;
 fn packed(answer: Answer) -> u64
     ensures { (result ≡ kind_of answer * 4294967296 + value_of answer) × (value_of answer < 4294967296) }
 {
-    (answer.kind() as u64) * VALUES + (answer.value() as u64)
+    u64::from(kind_of(answer)) * VALUES + u64::from(value_of(answer))
 }
 
 #[unsafe(no_mangle)]
 pub extern "C" fn kavdrell_open(table: &mut [u32], t: u32, n: u32, p: u32, f: u32, e: u32) -> u64
     ensures { unpacked result table.new ≡ open_table table.old t n p f e }
 {
-    packed(reclaim::open(table, t, n, p, f, e))
+    let sizes = Sizes {
+        tasks: t,
+        blocks: n,
+        slots: p,
+        per_epoch: f,
+        per_sweep: e,
+    };
+    packed(reclaim::open(table, sizes))
 }
 
 #[unsafe(no_mangle)]
@@ -97,34 +109,61 @@ pub extern "C" fn kavdrell_tally(table: &mut [u32], state: u32) -> u64
     packed(reclaim::tally(table, state))
 }
 
+// What a zone function that reads answers C: kind 0 and the minutes, or a refusal's kind and 0 minutes.
+#[repr(C)]
+#[derive(Clone, Copy, PartialEq, Eq, Debug)]
+pub struct ZoneMinutes {
+    pub kind: u32,
+    pub minutes: i32,
+}
+
+impl From<Result<i32, ZoneError>> for ZoneMinutes {
+    ghost from_gives = { λ answer minutes. given minutes ≡ said answer };
+
+    fn from(answer: Result<i32, ZoneError>) -> ZoneMinutes {
+        match answer {
+            Ok(minutes) => ZoneMinutes { kind: 0, minutes },
+            Err(error) => ZoneMinutes {
+                kind: u32::from(error),
+                minutes: 0,
+            },
+        }
+    }
+}
+
 #[unsafe(no_mangle)]
 pub extern "C" fn kavdrell_zone_write(minutes: i32, buffer: &mut [u8]) -> u32
     ensures { written result buffer.new ≡ zone_write minutes buffer.old }
 {
-    zone_text::write_zone(minutes, buffer)
+    match zone_text::write_zone(minutes, buffer) {
+        Ok(()) => 0,
+        Err(error) => u32::from(error),
+    }
 }
 
 #[unsafe(no_mangle)]
 pub extern "C" fn kavdrell_zone_read(characters: &[u8]) -> ZoneMinutes
-    ensures { result ≡ zone_read characters.now }
+    ensures { given result ≡ zone_read characters.now }
 {
-    zone_text::read_zone(characters)
+    zone_text::read_zone(characters).into()
 }
 
 // The minutes of a whole hour's record in the lent fixed table.
 #[unsafe(no_mangle)]
 pub extern "C" fn kavdrell_zone_hour(table: &[u8], hour: i32) -> ZoneMinutes
-    ensures { result ≡ minutes_of (hour_part (lent table.entry) hour).bytes }
+    ensures { given result ≡ minutes_of (hour_part (lent table.entry) hour).bytes }
 {
-    zones::requests::minutes(table, table, Request::Hour(hour))
+    let stores = Stores { table, room: &[] };
+    stores.minutes(Request::Hour(hour)).into()
 }
 
 // The minutes of a block's record in the lent room.
 #[unsafe(no_mangle)]
 pub extern "C" fn kavdrell_zone_block(room: &[u8], block: u32) -> ZoneMinutes
-    ensures { result ≡ minutes_of (block_part (lent room.entry) block).bytes }
+    ensures { given result ≡ minutes_of (block_part (lent room.entry) block).bytes }
 {
-    zones::requests::minutes(room, room, Request::Block(Block(block)))
+    let stores = Stores { table: &[], room };
+    stores.minutes(Request::Block(Block(block))).into()
 }
 
 #[unsafe(no_mangle)]
@@ -136,5 +175,5 @@ pub extern "C" fn kavdrell_write_field(
 ) -> Written
     ensures { outcome result.kind result.value buffer.new ≡ field_write buffer.old place tag numbers.now }
 {
-    schedule::writing::write_field(buffer, place, tag, numbers)
+    Written::from(schedule::writing::write_field(buffer, place, tag, numbers))
 }

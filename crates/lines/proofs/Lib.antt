@@ -1,8 +1,10 @@
 -- Laws that belong to no one function.
-pub mod Runs
-pub mod Digits
 pub mod Cases
+pub mod Digits
+pub mod Listed
+pub mod Many
+pub mod ReadBack
+pub mod Runs
 pub mod Table
 pub mod Texts
-pub mod ReadBack
-pub mod Listed
+pub mod Unique

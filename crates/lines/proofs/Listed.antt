@@ -5,16 +5,13 @@ use mathlib.Core.List.{List, [], ◌∷◌}
 use native.Mathlib.Omega.{arith}
 use lib.ListN.{length}
 use lib.Seq.{length-take-le}
-use Rattle.schedule.specs.declared.Numbers.{Numbers}
-use Rattle.schedule.specs.declared.Field.TheVariants.{Step}
-use Rattle.schedule.specs.Fields.{number, length_of, part, field_at}
+use Rattle.schedule.specs.Fields.{Numbers, Step, number, length_of, part, field_at}
 use Rattle.schedule.specs.Writing.{field_of, count_of, size_of, list_of, five_of, Outcome}
 use Rattle.schedule.proofs.Bytes.{Below, below-take, below-part, number-below}
 use Rattle.schedule.proofs.Refusals.{fours}
 use Rattle.schedule.proofs.Stands.{Whole, stands}
 use Rattle.schedule.proofs.RoundTrip.{none_lost, accepted-bytes, accepted_stays}
-use Rattle.lines.specs.declared.Line.TheVariants.{Step as LineStep}
-use Rattle.lines.specs.Lines.{line_of}
+use Rattle.lines.specs.Lines.{Step as LineStep, line_of}
 use Rattle.lines.specs.Typed.{typed}
 use Rattle.lines.proofs.ReadBack.{read_back}
 

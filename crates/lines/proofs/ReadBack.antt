@@ -13,12 +13,10 @@ use borrow.Author.Tests.{leb-true, ltb-true, le-leb, ne_eqb, not-true}
 use Rattle.schedule.proofs.Faults.{by_test}
 use Rattle.schedule.proofs.Bytes.{Below}
 use Rattle.schedule.specs.Writing.{count_of, five_of}
-use Rattle.lines.specs.declared.values.OneNumber.TheVariants.{Value}
-use Rattle.lines.specs.declared.Line.TheVariants.{Step}
 use Rattle.lines.specs.Words.{front, take_while, drop_while, is_blank, not_blank, not_hash, is_digit, first_word, after_word}
-use Rattle.lines.specs.Values.{one_more, decimal, next_number, are, numbers_from, told}
+use Rattle.lines.specs.Values.{Value, one_more, decimal, next_number, are, numbers_from, told}
 use Rattle.lines.specs.Names.{name_of, tag_of}
-use Rattle.lines.specs.Lines.{text_of, line_of}
+use Rattle.lines.specs.Lines.{Step, text_of, line_of}
 use Rattle.lines.specs.Typed.{last_digits, digits_of, spaced, typed}
 use Rattle.lines.proofs.Cases.{value, a_word}
 use Rattle.lines.proofs.Texts.{step}
@@ -100,7 +98,7 @@ numbers_back (word ∷ more) (n, ns) =
     let small = n.small in
     let v : Value (decimal word) ≡ next_number (spaced (word ∷ more)) =
     a_word (spaced (word ∷ more)) (sym (first_word_lem (32 ∷ []) word (spaced more) refl w some (spaced-end more))) (λ z. omega arith)
-    (value word (sym n.digits) refl {v = decimal word} (omega arith) (λ z. omega arith)) in
+    (value word (sym n.digits) refl {v = decimal word} (omega arith) (omega arith)) in
     rw (← v, after_word_lem (32 ∷ []) word (spaced more) refl w some (spaced-end more), numbers_back more ns)
 
 spaced-whole : (words : List (List ℕ)) → Numerals words → Whole not_hash (spaced words)

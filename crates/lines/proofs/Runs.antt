@@ -1,20 +1,30 @@
--- How far a run goes, from each place of it. Assumes nothing.
-use Prim.Native.Nat.{ℕ, ◌+◌, ◌≤◌, ◌<◌}
-use native.Mathlib.Numerals.{add-one}
+-- Where the first byte stands that does not pass a test. Assumes nothing.
+use Prim.Native.Nat.{ℕ, suc, ◌+◌, ◌≤◌}
 use native.Mathlib.Omega.{arith}
-use mathlib.Core.Path.{◌≡◌}
-use mathlib.Core.Bool.{Bool, true, false}
-use mathlib.Core.List.{List}
-use lib.ListN.{length, get_or, drop, drop_of_length-le}
-use lib.Seq.{drop-cons}
+use mathlib.Core.Path.{◌≡◌, refl}
+use mathlib.Core.Bool.{Bool, not, cond}
+use mathlib.Core.List.{List, [], ◌∷◌}
+use lib.Dec.{ltb}
+use lib.ListN.{length}
+use borrow.Author.Tests.{ltb-false}
+use Rattle.std.specs.Prelude.{Option, Some, None}
+use Rattle.std.specs.List.{position_or_len}
+use Rattle.std.specs.Option.{unwrap_or}
+use Rattle.schedule.proofs.Faults.{by_test}
 use Rattle.lines.specs.Words.{front}
 
-module _ (p : ℕ → Bool) (s : List ℕ) (at : ℕ) where
-  pub goes_on : at < length s → p (get_or s at 0) ≡ true → at + front p (drop at s) ≡ at + 1 + front p (drop (at + 1) s)
-  goes_on h e = rw (drop-cons s at 0 h, e, add-one at) (omega arith)
+module _ (p : ℕ → Bool) where
+  runs : (s : List ℕ) → position_or_len (λ c. not (p c)) s ≡ front p s
+  runs [] = refl
+  runs (x ∷ xs) = by_test (λ (n : ℕ). cond (not (not (p x))) (1 + position_or_len (λ c. not (p c)) xs) 0 ≡ n) (p x) (λ e. rw (e, runs xs) (omega arith)) (λ e. rw e)
 
-  pub stops : at < length s → p (get_or s at 0) ≡ false → at + front p (drop at s) ≡ at
-  stops h e = rw (drop-cons s at 0 h, e) (omega arith)
+  within : (s : List ℕ) → front p s ≤ length s
+  within [] = omega arith
+  within (x ∷ xs) = by_test (λ (n : ℕ). n ≤ suc (length xs)) (p x) (λ e. omega (arith, within xs)) (λ e. omega arith)
 
-  pub ended : length s ≤ at → at + front p (drop at s) ≡ at
-  ended h = rw (drop_of_length-le s h) (omega arith)
+  -- the place of the first that does not pass, or the length
+  pub run_end : (s : List ℕ)
+      → unwrap_or (cond (ltb (position_or_len (λ c. not (p c)) s) (length s)) (Some (position_or_len (λ c. not (p c)) s)) None) (length s) ≡ front p s
+  run_end s =
+      rw (runs s)
+      (by_test (λ (o : Option ℕ). unwrap_or o (length s) ≡ front p s) (ltb (front p s) (length s)) (λ e. refl) (λ e. omega (arith, within s, ltb-false)))

@@ -1,64 +1,24 @@
--- The table of names: what stands at a tag, and the search for a word. Assumes nothing.
-use Prim.Native.Nat.{ℕ, zero, suc, ◌+◌, ◌*◌, ◌-◌, ◌≤◌, ◌<◌}
+-- The table of names: the search for a word, and the comparison with the name of a tag. Assumes nothing.
+use Prim.Native.Nat.{ℕ, ◌+◌, ◌<◌}
 use native.Mathlib.Numerals.{add-one}
 use native.Mathlib.Omega.{arith}
 use mathlib.Core.Path.{◌≡◌, refl, sym, ap, ◌∙◌}
 use mathlib.Core.Bool.{Bool, true, false}
-use mathlib.Core.List.{List, [], ◌∷◌, ◌++◌, append_assoc}
+use mathlib.Core.List.{List, [], ◌∷◌}
 use lib.Dec.{eqb}
-use lib.ListN.{length, get_or, set, take, drop, replicate, length-append, length-take, length-drop, length-replicate, get_or-eq_default}
-use lib.Seq.{drop-cons, take-append_seam, drop_at, drop-drop, take-take, take-suc, take-suc-set, get_or-drop}
+use lib.ListN.{length, get_or, drop}
+use lib.Pointwise.{pointwise}
+use lib.Seq.{drop-cons}
 use borrow.Author.Tests.{eqb-true, eqb-false}
+use Rattle.std.proofs.lemmas.Bool.Decides.{Decides-eqb}
+use Rattle.std.proofs.lemmas.Option.{MatchOption-at_some, slice_get-get_or}
+use Rattle.std.proofs.lemmas.Slice.Eq.{slice_eq-Decides}
+use Rattle.schedule.specs.declared.tags.Tag.TheVariants.{Open}
+use Rattle.schedule.specs.declared.tags.TheConstants.Tag.{ALL}
+use Rattle.schedule.specs.Tags.{tag_number}
 use Rattle.schedule.proofs.Faults.{by_test}
-use Rattle.lines.specs.Names.{names, name_of, NameAtStart, same, tag_from}
-
--- names filled up to six bytes, one after another
-abbrev pub filled : List ℕ → List ℕ
-filled name = name ++ replicate (6 - length name) 32
-
-abbrev pub flat : List (List ℕ) → List ℕ
-flat [] = []
-flat (name ∷ more) = filled name ++ flat more
-
--- each name has at most six bytes
-abbrev Short : List (List ℕ) → Type 0
-Short [] = 0 ≤ 6
-Short (name ∷ more) = (length name ≤ 6) × Short more
-
-filled_six : (name : List ℕ) → length name ≤ 6 → length (filled name) ≡ 6
-filled_six name h = simp (length-append, length-replicate) (omega arith)
-
--- so the name of a tag stands six times as far on
-at_six : (ns : List (List ℕ)) → Short ns → (tag : ℕ) → (length (get_or ns tag []) ≤ 6) × (take (length (get_or ns tag [])) (drop (tag * 6) (flat ns)) ≡ get_or ns tag [])
-at_six [] h tag = (h, refl)
-at_six (name ∷ more) (h, hs) zero = (h, rw append_assoc (take-append_seam name _))
-at_six (name ∷ more) (h, hs) (suc tag) =
-    let further : suc tag * 6 ≡ 6 + tag * 6 = omega arith in
-    let later = at_six more hs tag in
-    (later.0, rw (further, ← drop-drop (tag * 6) 6 (filled name ++ flat more), drop_at (filled name) (flat more) 6 (filled_six name h)) later.1)
-
-pub stands : (tag : ℕ) → (length (name_of tag) ≤ 6) × (take (length (name_of tag)) (drop (tag * 6) (flat ([] ∷ names))) ≡ name_of tag)
-stands = at_six ([] ∷ names) (search arith)
-
--- a copy of a part, byte by byte
-pub copied : (out table : List ℕ) (from i : ℕ) → i < length out → from + i < length table → take i out ≡ take i (drop from table)
-    → take (i + 1) (set out i (get_or table (from + i) 0)) ≡ take (i + 1) (drop from table)
-copied out table from i h k e =
-    let l : i < length (drop from table) = simp length-drop (omega arith) in
-    rw (add-one i, take-suc-set out i (get_or table (from + i) 0) h, take-suc (drop from table) i 0 l, get_or-drop from table i 0, e)
-
--- six bytes copied from a tag's place start with its name
-pub starts : (tag i : ℕ) (out : List ℕ) → 6 ≤ i → take i out ≡ take i (drop (tag * 6) (flat ([] ∷ names))) → take (length (name_of tag)) out ≡ name_of tag
-starts tag i out six e =
-    let n = length (name_of tag) in
-    let few : n ≤ i = omega (arith, (stands tag).0) in
-    sym (take-take n i out few) ∙ ap (λ (l : List ℕ). take n l) e ∙ take-take n i (drop (tag * 6) (flat ([] ∷ names))) few ∙ (stands tag).1
-
-pub name_left : (tag n : ℕ) (out : List ℕ) → n ≡ length (name_of tag) → n ≤ 6 → length out ≡ 6 → take (length (name_of tag)) out ≡ name_of tag → NameAtStart tag n out
-name_left tag n out size six room e = (rw size e, omega arith, simp length-take (omega arith))
-
-pub none_left : (tag : ℕ) (out : List ℕ) → 10 < tag → NameAtStart tag 0 out
-none_left tag out h = (sym (get_or-eq_default ([] ∷ names) [] h), omega arith, refl)
+use Rattle.schedule.proofs.TagBytes.{table}
+use Rattle.lines.specs.Names.{names, name_of, same, tag_from}
 
 -- a test that passes just where two words are equal
 refused : (r : Bool) → (r ≡ true → ⊥) → r ≡ false
@@ -81,3 +41,20 @@ module _ (ns : List (List ℕ)) (word : List ℕ) (tag : ℕ) (h : tag < length 
 
   pub found : same word (get_or ns tag []) ≡ true → tag_from tag (drop tag ns) word ≡ tag
   found e = rw (drop-cons ns tag [] h, e)
+
+-- the tag at a place of the table, and the comparison with its name
+at_index : (i : ℕ) → i < 10 → tag_number (get_or ALL i Open) ≡ i + 1
+at_index i h = MatchOption-at_some _ _ _ (slice_get-get_or ALL i Open h) (table i) ∙ sym (add-one i)
+
+module _ (word bytes : List ℕ) (i : ℕ) (h : i < 10) (named : bytes ≡ name_of (tag_number (get_or ALL i Open))) {r : Bool} (compared : r ≡ pointwise eqb bytes word) where
+  tested : r ≡ same word (name_of (i + 1))
+  tested =
+      let name = named ∙ ap name_of (at_index i h) in
+      let d = slice_eq-Decides Decides-eqb bytes word r compared in
+      tells word (name_of (i + 1)) r (λ t. sym (d.0 t) ∙ name) (λ e. d.1 (name ∙ sym e))
+
+  pub goes_past : r ≡ false → tag_from (i + 1) (drop (i + 1) ([] ∷ names)) word ≡ tag_from (i + 1 + 1) (drop (i + 1 + 1) ([] ∷ names)) word
+  goes_past miss = goes_on ([] ∷ names) word (i + 1) (omega arith) (sym tested ∙ miss)
+
+  pub found_there : r ≡ true → tag_number (get_or ALL i Open) ≡ tag_from (i + 1) (drop (i + 1) ([] ∷ names)) word
+  found_there hit = at_index i h ∙ sym (found ([] ∷ names) word (i + 1) (omega arith) (sym tested ∙ hit))

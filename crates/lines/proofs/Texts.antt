@@ -4,25 +4,20 @@ use mathlib.Core.Path.{◌≡◌, sym, ap, ◌∙◌}
 use mathlib.Core.List.{List}
 use lib.ListN.{length}
 use borrow.Author.Tests.{eq-eqb, ne_eqb}
-use Rattle.schedule.specs.declared.Numbers.{Numbers}
+use Rattle.schedule.specs.Fields.{Numbers}
 use Rattle.schedule.specs.Writing.{count_of, five_of}
-use Rattle.lines.specs.declared.Line.{Line}
-use Rattle.lines.specs.declared.Line.TheVariants.{Blank, Step, Wrong}
-use Rattle.lines.specs.declared.values.AllNumbers.{AllNumbers}
-use Rattle.lines.specs.declared.values.AllNumbers.TheVariants.{Are, NotAll}
 use Rattle.lines.specs.Words.{first_word, after_word}
-use Rattle.lines.specs.Values.{Numbered, are, wrong, numbers_from, told}
+use Rattle.lines.specs.Values.{AllNumbers, Are, NotAll, Numbered, are, wrong, numbers_from, told}
 use Rattle.lines.specs.Names.{tag_of}
-use Rattle.lines.specs.Lines.{step_of, text_of}
-use Rattle.lines.proofs.Cases.{never}
+use Rattle.lines.specs.Lines.{Line, Blank, Step, Wrong, step_of, text_of}
 
 -- the numbers of a step, or what is wrong with them
 step_of_lem : (tag : ℕ) {m : Numbers} (x : Numbered) → Are m ≡ told x → Step tag m ≡ step_of tag x
 step_of_lem tag {m} (are vs) e = let same : m ≡ five_of vs = cc in ap (Step tag) same
-step_of_lem tag (wrong what) e = never e
+step_of_lem tag (wrong what) e = cc
 
 wrong_of : (tag : ℕ) {w : ℕ} (x : Numbered) → NotAll w ≡ told x → Wrong w ≡ step_of tag x
-wrong_of tag (are vs) e = never (sym e)
+wrong_of tag (are vs) e = cc
 wrong_of tag {w} (wrong what) e = let same : w ≡ what = cc in ap Wrong same
 
 module _ (s : List ℕ) {word : List ℕ} (is : word ≡ first_word s) where

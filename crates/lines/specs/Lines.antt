@@ -1,11 +1,16 @@
 -- What a line of a schedule typed as text says. Assumes nothing.
 use Rattle.std.specs.Prelude.{ℕ, cond, List, ◌==◌}
+use Rattle.schedule.specs.Fields.{Numbers}
 use Rattle.schedule.specs.Writing.{count_of, five_of}
-use Rattle.lines.specs.declared.Line.{Line}
-use Rattle.lines.specs.declared.Line.TheVariants.{Blank, Step, Wrong}
 use Rattle.lines.specs.Words.{is_empty, before_comment, first_word, after_word}
 use Rattle.lines.specs.Values.{Numbered, are, wrong, numbers_from}
 use Rattle.lines.specs.Names.{tag_of}
+
+-- what a line says: nothing, a step and its numbers (0 for those that it has not), or what is wrong with it
+pub data Line : Type 0 where
+  Blank : Line
+  Step : (tag : ℕ) (numbers : Numbers) → Line
+  Wrong : (what : ℕ) → Line
 
 -- a step and its numbers, or what is wrong with them
 abbrev pub step_of : (tag : ℕ) → Numbered → Line

@@ -1,12 +1,19 @@
 -- The numbers of a text: words of decimal digits. Assumes nothing.
 use Rattle.std.specs.Prelude.{ℕ, zero, suc, ◌+◌, ◌*◌, ◌-◌, Bool, cond, not, nat_lt, ◌==◌, length}
 use mathlib.Core.List.{List, [], ◌∷◌, foldl}
+use Rattle.schedule.specs.Fields.{Numbers}
 use Rattle.schedule.specs.Writing.{five_of}
-use Rattle.lines.specs.declared.values.OneNumber.{OneNumber}
-use Rattle.lines.specs.declared.values.OneNumber.TheVariants.{Value, NoValue}
-use Rattle.lines.specs.declared.values.AllNumbers.{AllNumbers}
-use Rattle.lines.specs.declared.values.AllNumbers.TheVariants.{Are, NotAll}
 use Rattle.lines.specs.Words.{front, is_digit, is_empty, first_word, after_word}
+
+-- a word's number, or what is wrong with the word
+pub data OneNumber : Type 0 where
+  Value : ℕ → OneNumber
+  NoValue : ℕ → OneNumber
+
+-- a step's numbers, or what is wrong with them
+pub data AllNumbers : Type 0 where
+  Are : Numbers → AllNumbers
+  NotAll : ℕ → AllNumbers
 
 -- every byte is a digit
 abbrev pub is_digits : List ℕ → Bool
@@ -44,7 +51,7 @@ unfoldable pub numbers_from : (count : ℕ) → List ℕ → Numbered
 numbers_from zero s = cond (is_empty (first_word s)) (are []) (wrong 5)
 numbers_from (suc n) s = before (next_number s) (numbers_from n (after_word s))
 
--- the numbers of a step, or what is wrong, in the code's type
+-- the numbers of a step as five, 0 for those that it has not, or what is wrong
 abbrev pub told : Numbered → AllNumbers
 told (are vs) = Are (five_of vs)
 told (wrong what) = NotAll what

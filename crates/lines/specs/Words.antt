@@ -1,7 +1,5 @@
 -- The words of a text: runs of bytes that are no blanks. Assumes nothing.
 use Rattle.std.specs.Prelude.{ℕ, suc, Bool, cond, not, ◌||◌, ◌&&◌, List, [], ◌∷◌, nat_le, ◌==◌, length, take, drop}
-use Rattle.lines.specs.declared.words.Run.{Run}
-use Rattle.lines.specs.declared.words.Run.TheVariants.{Blanks, Word, Text, Digits}
 
 -- how many bytes at the start pass a test, up to the first that does not
 abbrev pub front : (ℕ → Bool) → List ℕ → ℕ
@@ -35,13 +33,6 @@ not_hash c = not (c == 35)
 -- 0 to 9
 abbrev pub is_digit : ℕ → Bool
 is_digit c = nat_le 48 c && nat_le c 57
-
--- the test of each kind of run
-abbrev pub in_run : Run → ℕ → Bool
-in_run Blanks = is_blank
-in_run Word = not_blank
-in_run Text = not_hash
-in_run Digits = is_digit
 
 -- what counts of a line: the bytes before its first #
 abbrev pub before_comment : List ℕ → List ℕ

@@ -3,56 +3,62 @@
 
 ghost use Rattle.std.specs.Prelude.{◌≡◌};
 ghost use Rattle.lines.specs.Lines.{text_of, line_of};
+ghost use Rattle.lines.specs.Said.{said};
 
 use names::tag_of;
-use schedule::{Numbers, count_of};
-use values::{AllNumbers, numbers_from};
-use words::{after_word, before_comment, first_word};
+use schedule::Step;
+use std::fmt;
+use values::numbers_from;
+use words::{before_comment, split_word};
 
 pub mod names;
 mod values;
 mod words;
 
-// What a line says: nothing, a step and its numbers (0 for those that it has not), or what is wrong with it.
-#[derive(Clone, Copy)]
-pub enum Line {
-    Blank,
-    Step { tag: u8, numbers: Numbers },
-    Wrong { what: u32 },
+// What can be wrong with a line.
+#[derive(Clone, Copy, PartialEq, Eq)]
+pub enum Wrong {
+    UnknownStep,
+    NotANumber,
+    TooLarge,
+    TooFewNumbers,
+    TooManyNumbers,
 }
 
-// What can be wrong with a line.
-pub const UNKNOWN_STEP: u32 = 1;
+impl fmt::Display for Wrong {
+    ghost use Rattle.std.specs.Prelude.{Some};
+    ghost use Rattle.lines.specs.Said.{complaint};
 
-pub const NOT_A_NUMBER: u32 = 2;
+    ghost output = { λ wrong. Some (complaint wrong) };
 
-pub const TOO_LARGE: u32 = 3;
+    fn fmt<W: fmt::Write>(&self, f: &mut fmt::Formatter<W>) -> fmt::Result {
+        f.write_str(match self {
+            Wrong::UnknownStep => "unknown step",
+            Wrong::NotANumber => "not a number",
+            Wrong::TooLarge => "a number above 4294967295",
+            Wrong::TooFewNumbers => "too few numbers",
+            Wrong::TooManyNumbers => "too many numbers",
+        })
+    }
+}
 
-pub const TOO_FEW_NUMBERS: u32 = 4;
-
-pub const TOO_MANY_NUMBERS: u32 = 5;
-
-// What a text of no comment says.
-fn read_text(text: &[u8]) -> Line
-    ensures { result ≡ text_of text.now }
+// What a text of no comment says: nothing, or a step and its numbers.
+fn read_text(text: &[u8]) -> Result<Option<Step>, Wrong>
+    ensures { said result ≡ text_of text.now }
 {
-    let word = first_word(text);
-    if word.len() == 0 {
-        return Line::Blank;
+    let (word, rest) = split_word(text);
+    if word.is_empty() {
+        return Ok(None);
     }
-    let tag = tag_of(word);
-    if tag == 0 {
-        return Line::Wrong { what: UNKNOWN_STEP };
-    }
-    match numbers_from(after_word(text), count_of(tag)) {
-        AllNumbers::Are(numbers) => Line::Step { tag, numbers },
-        AllNumbers::NotAll(what) => Line::Wrong { what },
-    }
+    let tag = tag_of(word).ok_or(Wrong::UnknownStep)?;
+    let numbers = numbers_from(rest, tag)?;
+    Ok(Some(Step { tag, numbers }))
 }
 
 // What a line says, given without the newline that ends it.
-pub fn read_line(line: &[u8]) -> Line
-    ensures { result ≡ line_of line.now }
+#[tactic(auto, unfolding(crate::specs::Lines::line_of))]
+pub fn read_line(line: &[u8]) -> Result<Option<Step>, Wrong>
+    ensures { said result ≡ line_of line.now }
 {
     read_text(before_comment(line))
 }

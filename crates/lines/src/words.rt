@@ -1,83 +1,40 @@
 // The words of a text, and the runs of bytes that they are found by.
-ghost use Rattle.std.specs.Prelude.{◌≡◌, ◌≤◌, length};
-ghost use Rattle.lines.specs.Words.{front, take_while, drop_while, is_blank, in_run, before_comment, first_word, after_word};
-
-// The kinds of runs: blanks, a word, what is before a comment, and digits.
-#[derive(Clone, Copy)]
-pub enum Run {
-    Blanks,
-    Word,
-    Text,
-    Digits,
-}
-
-const HASH: u8 = 35;
+ghost use Rattle.std.specs.Prelude.{◌≡◌, ℕ, Bool};
+ghost use Rattle.lines.specs.Words.{take_while, drop_while, is_blank, before_comment, first_word, after_word};
+ghost use Rattle.lines.specs.Tests.{Tests};
 
 // Space, tab, and carriage return, which ends the lines of some files.
 fn is_blank(byte: u8) -> bool
     ensures { result ≡ is_blank byte }
 {
-    (byte == 32) | (byte == 9) | (byte == 13)
+    matches!(byte, b' ' | b'\t' | b'\r')
 }
 
-fn in_run(run: Run, byte: u8) -> bool
-    ensures { result ≡ in_run run byte }
+// The bytes that a text starts with and that pass a test, and what follows them.
+fn split_run<F: Fn(u8) -> bool + Drop>(text: &[u8], test: F) -> (&[u8], &[u8])
+    requires { F.IsAlwaysCallable test }
+    ensures { (p : ℕ → Bool) → Tests F.post test p → (result.0.now ≡ take_while p text.now) × (result.1.now ≡ drop_while p text.now) }
 {
-    match run {
-        Run::Blanks => is_blank(byte),
-        Run::Word => !is_blank(byte),
-        Run::Text => byte != HASH,
-        Run::Digits => (48 <= byte) & (byte <= 57),
-    }
-}
-
-// How many bytes at the start are in a run.
-pub fn run_length(bytes: &[u8], run: Run) -> usize
-    ensures { (result ≡ front (in_run run) bytes.now) × (result ≤ length bytes.now) }
-{
-    let mut at = 0;
-    while at < bytes.len() {
-        if !in_run(run, bytes[at]) {
-            return at;
-        }
-        at += 1;
-    }
-    at
-}
-
-// The run that bytes start with.
-fn run_at<'a>(bytes: &'a [u8], run: Run) -> &'a [u8]
-    ensures { result.now ≡ take_while (in_run run) bytes.now }
-{
-    let end = run_length(bytes, run);
-    &bytes[..end]
-}
-
-// What follows the run that bytes start with.
-fn past_run<'a>(bytes: &'a [u8], run: Run) -> &'a [u8]
-    ensures { result.now ≡ drop_while (in_run run) bytes.now }
-{
-    let end = run_length(bytes, run);
-    &bytes[end..]
+    let end = text
+        .iter()
+        .position(|byte| !test(*byte))
+        .unwrap_or(text.len());
+    text.split_at(end)
 }
 
 // What counts of a line.
-pub fn before_comment<'a>(line: &'a [u8]) -> &'a [u8]
+pub fn before_comment(line: &[u8]) -> &[u8]
     ensures { result.now ≡ before_comment line.now }
 {
-    run_at(line, Run::Text)
+    split_run(line, |byte| byte != b'#').0
 }
 
-// The first word; empty where there is none.
-pub fn first_word<'a>(text: &'a [u8]) -> &'a [u8]
-    ensures { result.now ≡ first_word text.now }
+// The first word and what follows it. Where there is no word it is empty, as its definition has it, and no Option.
+#[tactic(auto, unfolding(crate::specs::Words::first_word, crate::specs::Words::after_word))]
+pub fn split_word(text: &[u8]) -> (&[u8], &[u8])
+    ensures word { result.0.now ≡ first_word text.now }
+    ensures rest { result.1.now ≡ after_word text.now }
 {
-    run_at(past_run(text, Run::Blanks), Run::Word)
-}
-
-// What follows the first word.
-pub fn after_word<'a>(text: &'a [u8]) -> &'a [u8]
-    ensures { result.now ≡ after_word text.now }
-{
-    past_run(past_run(text, Run::Blanks), Run::Word)
+    let (_, rest) = split_run(text, is_blank);
+    split_run(rest, |byte| !is_blank(byte))
 }

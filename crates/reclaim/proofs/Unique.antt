@@ -1,13 +1,13 @@
 -- No second answer and table meet a promise: one theorem over the ten steps. Assumes nothing.
+use Rattle.std.specs.Prelude.{Ok, Err}
 use Prim.Native.Nat.{ℕ}
 use mathlib.Core.Path.{◌≡◌, refl, sym, ap, ap₂, ◌∙◌}
 use mathlib.Core.Bool.{cond}
 use mathlib.Core.List.{List}
 use lib.Dec.{eqb}
 use Rattle.rules.specs.OnTable.{Result}
-use Rattle.work.specs.Answers.{kind_of, value_of, told}
-use Rattle.work.specs.declared.answers.Answer.{Answer}
-use Rattle.work.specs.declared.answers.Answer.TheVariants.{Done, LookAgain, Refused}
+use Rattle.work.specs.Answers.{Answer, kind_of, value_of, told}
+use Rattle.work.specs.declared.answers.Reply.TheVariants.{Done, LookAgain}
 use Rattle.work.specs.declared.answers.Refusal.{Refusal}
 use Rattle.work.specs.declared.answers.Refusal.TheVariants.{Unsound, BadSize, NotThere, WrongPhase, NoSlot, NoBlock, WrongBlock, StillNamed, NoneFree, Exhausted, Unshown}
 use Rattle.reclaim.specs.Promises.{PublicCall, promised}
@@ -19,23 +19,23 @@ refusal_of n =
     (cond (eqb n 6) NoBlock (cond (eqb n 7) WrongBlock (cond (eqb n 8) StillNamed (cond (eqb n 9) NoneFree (cond (eqb n 10) Exhausted Unshown)))))))))
 
 answer_of : (kind value : ℕ) → Answer
-answer_of kind value = cond (eqb kind 0) (Done value) (cond (eqb kind 11) LookAgain (Refused (refusal_of kind)))
+answer_of kind value = cond (eqb kind 0) (Ok (Done value)) (cond (eqb kind 11) (Ok LookAgain) (Err (refusal_of kind)))
 
 answer_back : (a : Answer) → answer_of (kind_of a) (value_of a) ≡ a
 unfolding answer_of refusal_of
-answer_back (Done value) = refl
-answer_back LookAgain = refl
-answer_back (Refused Unsound) = refl
-answer_back (Refused BadSize) = refl
-answer_back (Refused NotThere) = refl
-answer_back (Refused WrongPhase) = refl
-answer_back (Refused NoSlot) = refl
-answer_back (Refused NoBlock) = refl
-answer_back (Refused WrongBlock) = refl
-answer_back (Refused StillNamed) = refl
-answer_back (Refused NoneFree) = refl
-answer_back (Refused Exhausted) = refl
-answer_back (Refused Unshown) = refl
+answer_back (Ok (Done value)) = refl
+answer_back (Ok LookAgain) = refl
+answer_back (Err Unsound) = refl
+answer_back (Err BadSize) = refl
+answer_back (Err NotThere) = refl
+answer_back (Err WrongPhase) = refl
+answer_back (Err NoSlot) = refl
+answer_back (Err NoBlock) = refl
+answer_back (Err WrongBlock) = refl
+answer_back (Err StillNamed) = refl
+answer_back (Err NoneFree) = refl
+answer_back (Err Exhausted) = refl
+answer_back (Err Unshown) = refl
 
 -- two answers with the same kind and value are the same answer
 same_answer : (a b : Answer) → kind_of a ≡ kind_of b → value_of a ≡ value_of b → a ≡ b

@@ -2,39 +2,52 @@
 // leaves every word as it was.
 #![tactic(auto, unfolding(rules::specs::OnTable::on_table))]
 
-ghost use Rattle.std.specs.Prelude.{◌≡◌};
+ghost use Rattle.std.specs.Prelude.{◌≡◌, cond, Ok, Err};
+ghost use Rattle.table.specs.Words.{sound};
 ghost use Rattle.rules.specs.Steps.{start, look, settle, make, swap, retire, sweep, end, tally};
 ghost use Rattle.rules.specs.OnTable.{on_table, open_table};
 ghost use Rattle.work.specs.Answers.{told};
+ghost use Rattle.work.specs.declared.answers.Refusal.TheVariants.{Unsound};
 
 use numbers::{Block, Slot, Task};
 use soundness::{is_sound, sizes_sound};
 use storing::opening::put_opened;
+use table::sizes::Sizes;
 use table::words::length_for;
-use work::answers::{Answer, Refusal};
+use work::answers::{Answer, Refusal, Reply};
 
-// Open: t tasks, n blocks, p slots, f makes per epoch, e retirements per sweep. It looks at nothing that stood there.
-pub fn open(table: &mut [u32], t: u32, n: u32, p: u32, f: u32, e: u32) -> Answer
-    ensures { told result table.new ≡ open_table table.old t n p f e }
+// What every step but open begins with: the table is sound.
+fn check_sound(table: &[u32]) -> Result<(), Refusal>
+    ensures { result ≡ cond (sound table.now) (Ok tt) (Err Unsound) }
 {
-    if !sizes_sound(t, n, p, f, e) {
-        return Answer::Refused(Refusal::BadSize);
+    if is_sound(table) {
+        Ok(())
+    } else {
+        Err(Refusal::Unsound)
     }
-    let length = length_for(t, n, p);
+}
+
+// Open: it looks at nothing that stood there.
+pub fn open(table: &mut [u32], sizes: Sizes) -> Answer
+    ensures { told result table.new ≡ open_table table.old sizes.tasks sizes.blocks sizes.slots sizes.per_epoch sizes.per_sweep }
+{
+    if !sizes_sound(sizes) {
+        return Err(Refusal::BadSize);
+    }
+    let length = length_for(sizes);
     if table.len() != length {
-        return Answer::Refused(Refusal::BadSize);
+        return Err(Refusal::BadSize);
     }
-    put_opened(table, t, n, p, f, e);
-    Answer::Done(length as u32)
+    put_opened(table, sizes);
+    // A length within the limits is at most 4,518, and so fits a word.
+    Ok(Reply::Done(length as u32))
 }
 
 // Start: the task, which is idle, begins an operation.
 pub fn start(table: &mut [u32], task: Task) -> Answer
     ensures { told result table.new ≡ on_table table.old (λ s. start s task.0) }
 {
-    if !is_sound(table) {
-        return Answer::Refused(Refusal::Unsound);
-    }
+    check_sound(table)?;
     work::start(table, task)
 }
 
@@ -42,9 +55,7 @@ pub fn start(table: &mut [u32], task: Task) -> Answer
 pub fn look(table: &mut [u32], task: Task, slot: Slot) -> Answer
     ensures { told result table.new ≡ on_table table.old (λ s. look s task.0 slot.0) }
 {
-    if !is_sound(table) {
-        return Answer::Refused(Refusal::Unsound);
-    }
+    check_sound(table)?;
     work::look(table, task, slot)
 }
 
@@ -52,9 +63,7 @@ pub fn look(table: &mut [u32], task: Task, slot: Slot) -> Answer
 pub fn settle(table: &mut [u32], task: Task) -> Answer
     ensures { told result table.new ≡ on_table table.old (λ s. settle s task.0) }
 {
-    if !is_sound(table) {
-        return Answer::Refused(Refusal::Unsound);
-    }
+    check_sound(table)?;
     work::settle(table, task)
 }
 
@@ -62,9 +71,7 @@ pub fn settle(table: &mut [u32], task: Task) -> Answer
 pub fn make(table: &mut [u32], task: Task) -> Answer
     ensures { told result table.new ≡ on_table table.old (λ s. make s task.0) }
 {
-    if !is_sound(table) {
-        return Answer::Refused(Refusal::Unsound);
-    }
+    check_sound(table)?;
     work::make(table, task)
 }
 
@@ -72,9 +79,7 @@ pub fn make(table: &mut [u32], task: Task) -> Answer
 pub fn swap(table: &mut [u32], task: Task, slot: Slot, old: Block, new: Block) -> Answer
     ensures { told result table.new ≡ on_table table.old (λ s. swap s task.0 slot.0 old.0 new.0) }
 {
-    if !is_sound(table) {
-        return Answer::Refused(Refusal::Unsound);
-    }
+    check_sound(table)?;
     work::swap(table, task, slot, old, new)
 }
 
@@ -82,9 +87,7 @@ pub fn swap(table: &mut [u32], task: Task, slot: Slot, old: Block, new: Block) -
 pub fn retire(table: &mut [u32], task: Task, block: Block) -> Answer
     ensures { told result table.new ≡ on_table table.old (λ s. retire s task.0 block.0) }
 {
-    if !is_sound(table) {
-        return Answer::Refused(Refusal::Unsound);
-    }
+    check_sound(table)?;
     work::retire(table, task, block)
 }
 
@@ -92,9 +95,7 @@ pub fn retire(table: &mut [u32], task: Task, block: Block) -> Answer
 pub fn sweep(table: &mut [u32], task: Task) -> Answer
     ensures { told result table.new ≡ on_table table.old (λ s. sweep s task.0) }
 {
-    if !is_sound(table) {
-        return Answer::Refused(Refusal::Unsound);
-    }
+    check_sound(table)?;
     work::sweep(table, task)
 }
 
@@ -102,18 +103,14 @@ pub fn sweep(table: &mut [u32], task: Task) -> Answer
 pub fn end(table: &mut [u32], task: Task) -> Answer
     ensures { told result table.new ≡ on_table table.old (λ s. end s task.0) }
 {
-    if !is_sound(table) {
-        return Answer::Refused(Refusal::Unsound);
-    }
+    check_sound(table)?;
     work::end(table, task)
 }
 
-// Tally: how many blocks are in a state.
+// Tally: how many blocks are in a state, which may be any number: above 3 there is none.
 pub fn tally(table: &mut [u32], state: u32) -> Answer
     ensures { told result table.new ≡ on_table table.old (λ s. tally s state) }
 {
-    if !is_sound(table) {
-        return Answer::Refused(Refusal::Unsound);
-    }
+    check_sound(table)?;
     work::tally(table, state)
 }

@@ -5,42 +5,71 @@ use mathlib.Core.Logic.{◌≢◌}
 use mathlib.Core.Bool.{true, false}
 use mathlib.Core.List.{List, [], ◌∷◌, ◌++◌, map}
 use native.Mathlib.Omega.{arith}
+use lib.Dec.{eqb}
 use lib.ListN.{length, take, drop}
 use borrow.Author.Tests.{eq-eqb, ne_eqb}
+use Rattle.table.specs.declared.sizes.Sizes.{Sizes}
 use Rattle.table.specs.Soundness.{sized}
 use Rattle.table.specs.Words.{sound, state_of, length_for}
-use Rattle.table.proofs.Tests.{cond_cases}
-use Rattle.rules.specs.OnTable.{Result, in_words}
+use Rattle.table.proofs.Tests.{decide, cond_cases}
+use Rattle.rules.specs.OnTable.{Result, in_words, fits, open_table}
 use Rattle.rules.specs.Calls.{Call, step, tag}
-use Rattle.work.specs.Answers.{kind_of, told}
-use Rattle.work.specs.declared.answers.Answer.{Answer}
-use Rattle.work.specs.declared.answers.Answer.TheVariants.{Refused}
-use Rattle.work.specs.declared.answers.Refusal.TheVariants.{Unsound}
+use Rattle.std.specs.Prelude.{Ok, Err}
+use Rattle.work.specs.Answers.{Answer, kind_of, told}
+use Rattle.work.specs.declared.answers.Reply.{Reply}
+use Rattle.work.specs.declared.answers.Reply.TheVariants.{Done, LookAgain}
+use Rattle.work.specs.declared.answers.Refusal.{Refusal}
+use Rattle.work.specs.declared.answers.Refusal.TheVariants.{Unsound, BadSize, NotThere, WrongPhase, NoSlot, NoBlock, WrongBlock, StillNamed, NoneFree, Exhausted, Unshown}
 use Rattle.reclaim.specs.Promises.{PublicCall, promised}
 use Rattle.reclaim.specs.Promises.PublicCall.{calls}
 use Rattle.reclaim.proofs.Tables.{unsound, on_sound, open_length}
-use Rattle.schedule.specs.declared.Numbers.{Numbers}
-use Rattle.runner.specs.Running.{Held, held, buffer_length, lent, put_back, carried, ran, step_of, open_of}
-use Rattle.runner.specs.declared.Ran.{Ran}
+use Rattle.schedule.specs.Fields.{Numbers}
+use Rattle.schedule.specs.Tags.{tag_number}
+use Rattle.schedule.specs.Writing.{five_of}
+use Rattle.schedule.specs.declared.Step.{Step}
+use Rattle.schedule.specs.declared.tags.Tag.{Tag}
+use Rattle.schedule.specs.declared.tags.Tag.TheVariants.{Open}
+use Rattle.runner.specs.Running.{Held, held, buffer_length, lent, put_back, carried, Ran, ran, step_of, open_of, opening, asked}
 
 -- each tag's step is the call that has this tag
 pub of_its_tag : (n : Numbers) → map (λ k. tag (step_of k n)) (2 ∷ 3 ∷ 4 ∷ 5 ∷ 6 ∷ 7 ∷ 8 ∷ 9 ∷ 10 ∷ []) ≡ 2 ∷ 3 ∷ 4 ∷ 5 ∷ 6 ∷ 7 ∷ 8 ∷ 9 ∷ 10 ∷ []
 unfolding step_of
 of_its_tag n = refl
 
--- a step by its tag, where the tag is known
-pub by_tag : (t : List ℕ) (n : Numbers) {tag : ℕ} (k : ℕ) {r : Result} → tag ≡ k → r ≡ in_words (step (state_of t) (step_of k n)) → r ≡ in_words (step (state_of t) (step_of tag n))
-by_tag t n k e p = p ∙ ap (λ (m : ℕ). in_words (step (state_of t) (step_of m n))) (sym e)
+-- a field of another tag than open's asks for a step
+not_one : (t : Tag) → t ≢ Open → eqb (tag_number t) 1 ≡ false
+not_one Open other = absurd (other refl)
+not_one _ other = refl
 
--- of the tags from 2 to 10, the one that is none of the eight before it
-pub past_five : {tag : ℕ} → 2 ≤ tag → tag ≢ 2 → tag ≢ 3 → tag ≢ 4 → tag ≢ 5 → 6 ≤ tag
-past_five low a b d e = omega arith
-
-pub ten_left : {tag : ℕ} → 6 ≤ tag → tag ≤ 10 → tag ≢ 6 → tag ≢ 7 → tag ≢ 8 → tag ≢ 9 → tag ≡ 10
-ten_left low high a b d e = omega arith
+pub not_open : (field : Step) → field.tag ≢ Open → asked field ≡ calls (step_of (tag_number field.tag) (five_of field.numbers))
+not_open field other = rw (not_one field.tag other)
 
 abbrev answered : Answer → (used : ℕ) → Ran
 answered a used = record { answer = a; used = used }
+
+-- a refusal's kind is not 0, and an open that is not refused is done
+pub refusal_not_0 : (x : Refusal) → kind_of (Err x) ≡ 0 → ⊥
+refusal_not_0 Unsound z = omega arith
+refusal_not_0 BadSize z = omega arith
+refusal_not_0 NotThere z = omega arith
+refusal_not_0 WrongPhase z = omega arith
+refusal_not_0 NoSlot z = omega arith
+refusal_not_0 NoBlock z = omega arith
+refusal_not_0 WrongBlock z = omega arith
+refusal_not_0 StillNamed z = omega arith
+refusal_not_0 NoneFree z = omega arith
+refusal_not_0 Exhausted z = omega arith
+refusal_not_0 Unshown z = omega arith
+
+reply_not_2 : (r : Reply) → kind_of (Ok r) ≡ 2 → ⊥
+reply_not_2 (Done v) z = omega arith
+reply_not_2 LookAgain z = omega arith
+
+pub open_done_is_0 : (t : List ℕ) (T N P F E : ℕ) (r : Reply) {u : List ℕ} → told (Ok r) u ≡ open_table t T N P F E → kind_of (Ok r) ≡ 0
+unfolding open_table
+open_done_is_0 t T N P F E r e =
+    let kind = ap (λ (o : Result). o.kind) e in
+    decide (fits t T N P F E) (λ f. kind ∙ rw f refl) (λ f. absurd (reply_not_2 r (kind ∙ rw f refl)))
 
 -- no words are no table
 none_sound : sound [] ≡ false
@@ -58,23 +87,17 @@ module _ (b : List ℕ) (used : ℕ) (a : Answer) (t : List ℕ) where
   stepped c s e = put_back_lem (held b used) (calls c) (e ∙ on_sound (take used b) (λ z. step z c) s)
 
   -- an open, accepted or refused
-  module _ (sizes : Numbers) (n : ℕ) (asked : n ≡ lent (held b used) (open_of sizes)) (e : told a t ≡ promised (take n b) (open_of sizes)) where
-    at_lent : put_back (held b used) (open_of sizes) (told a t) ≡ carried (held b used) (open_of sizes)
-    at_lent = put_back_lem (held b used) (open_of sizes) (rw asked at e)
+  module _ (sizes : Sizes) (n : ℕ) (asked : n ≡ lent (held b used) (opening sizes)) (e : told a t ≡ promised (take n b) (opening sizes)) where
+    at_lent : put_back (held b used) (opening sizes) (told a t) ≡ carried (held b used) (opening sizes)
+    at_lent = put_back_lem (held b used) (opening sizes) (rw asked at e)
 
-    pub accepted : kind_of a ≡ 0 → ran (answered a n) (t ++ drop n b) ≡ carried (held b used) (open_of sizes)
+    pub accepted : kind_of a ≡ 0 → ran (answered a n) (t ++ drop n b) ≡ carried (held b used) (opening sizes)
     accepted k = rw asked (rw (eq-eqb (kind_of a) 0 k) at at_lent)
 
-    pub refused : kind_of a ≢ 0 → ran (answered a used) (t ++ drop n b) ≡ carried (held b used) (open_of sizes)
+    pub refused : kind_of a ≢ 0 → ran (answered a used) (t ++ drop n b) ≡ carried (held b used) (opening sizes)
     refused k = rw asked (rw (ne_eqb (kind_of a) 0 k) at at_lent)
 
 module _ (b : List ℕ) (used : ℕ) where
   -- a step before an accepted open
-  pub no_table : (c : Call) → used ≡ 0 → ran (answered (Refused Unsound) used) b ≡ carried (held b used) (calls c)
+  pub no_table : (c : Call) → used ≡ 0 → ran (answered (Err Unsound) used) b ≡ carried (held b used) (calls c)
   no_table c z = rw z (put_back_lem (held b 0) (calls c) (unsound [] (λ s. step s c) none_sound))
-
-  -- sizes within their limits ask for no more words than the buffer has
-  pub lent_fits : (n : Numbers) → length b ≡ buffer_length → lent (held b used) (open_of n) ≤ length b
-  lent_fits n l =
-      cond_cases (λ (m : ℕ). m ≤ length b) (sized n.first n.second n.third n.fourth n.fifth) (length_for n.first n.second n.third) (length b)
-      (λ s. omega (arith, open_length n.first n.second n.third n.fourth n.fifth s)) (λ s. omega arith)

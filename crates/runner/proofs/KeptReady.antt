@@ -1,7 +1,7 @@
 -- Whatever is carried out, the buffer stays whole and its table sound. Assumes nothing.
 use Prim.Native.Nat.{ℕ, ◌≤◌}
 use mathlib.Core.Path.{◌≡◌, refl, sym, ap, ◌∙◌, subst}
-use mathlib.Core.Bool.{true}
+use mathlib.Core.Bool.{true, cond}
 use mathlib.Core.List.{List, ◌++◌}
 use native.Mathlib.Omega.{arith}
 use lib.Dec.{eqb}
@@ -9,21 +9,23 @@ use lib.ListN.{length, take, drop, take-append-drop, length-replicate}
 use lib.Seq.{length-take-le, length_front, take_at}
 use borrow.Author.Tests.{eqb-true, eqb-false}
 use Rattle.table.specs.State.{State, idle_task, free_block}
+use Rattle.table.specs.declared.sizes.Sizes.{Sizes}
 use Rattle.table.specs.Soundness.{sized}
 use Rattle.table.specs.Words.{sound, state_of, words, length_for}
 use Rattle.table.proofs.Tests.{decide}
 use Rattle.table.proofs.Places.{exact_words, words-state_of}
 use Rattle.table.proofs.Sound.{exact, facts, words-sound}
-use Rattle.rules.specs.OnTable.{result_of}
+use Rattle.rules.specs.OnTable.{result_of, in_words}
 use Rattle.rules.specs.Calls.{Call, step}
 use Rattle.rules.specs.Steps.{opened}
 use Rattle.rules.proofs.Changes.{step_keeps}
 use Rattle.rules.proofs.Kept.{step-sound, opened-sound}
-use Rattle.reclaim.specs.Promises.{PublicCall}
+use Rattle.reclaim.specs.Promises.{PublicCall, promised}
 use Rattle.reclaim.specs.Promises.PublicCall.{opens, calls}
 use Rattle.reclaim.proofs.Tables.{on_sound, open_length, open_bad_size, open_done}
-use Rattle.runner.specs.Running.{held, Carried, Ready, buffer_length, carried}
-use Rattle.runner.proofs.Carrying.{put_back_lem, no_table}
+use Rattle.work.specs.Answers.{Answer, kind_of, told}
+use Rattle.runner.specs.Running.{held, lent, Carried, Ready, buffer_length, carried, ran_to, opening}
+use Rattle.runner.proofs.Carrying.{put_back_lem, no_table, stepped, accepted, refused}
 
 -- two states of the same sizes have as many words
 record SameSizes (s s' : State) : Type 0 where
@@ -90,6 +92,18 @@ module _ (b : List ℕ) (used : ℕ) (h : Ready (held b used)) where
   pub and_ready : (c : PublicCall) {o : Carried} → o ≡ carried (held b used) c → (o ≡ carried (held b used) c) × Ready o.after
   and_ready c e = (e, subst (λ (z : Carried). Ready z.after) (sym e) (ready_kept c))
 
--- before an accepted open any buffer of the whole length is ready
-pub not_opened : (b : List ℕ) → length b ≡ buffer_length → Ready (held b 0)
-not_opened b l = record { whole = l; inside = omega arith; table = λ z. absurd (z refl) }
+-- a step on the table, and an open that is refused or accepted: what is lent, what became of it, and what is held then
+module _ {b : List ℕ} {used : ℕ} (h : Ready (held b used)) (a : Answer) {t : List ℕ} where
+  pub stepped_ready : (c : Call) → (used ≡ 0 → ⊥) → told a t ≡ in_words (step (state_of (take used b)) c)
+      → (ran_to a (held (t ++ drop used b) used) ≡ carried (held b used) (calls c)) × Ready (held (t ++ drop used b) used)
+  stepped_ready c z e = and_ready b used h (calls c) (stepped b used a t c (h.table z) e)
+
+  module _ (n : Sizes) {m : ℕ} (asked : m ≡ cond (sized n.tasks n.blocks n.slots n.per_epoch n.per_sweep) (length_for n.tasks n.blocks n.slots) buffer_length) (e : told a t ≡ promised (take m b) (opening n)) where
+    of_buffer : m ≡ lent (held b used) (opening n)
+    of_buffer = rw h.whole asked
+
+    pub refused_ready : (kind_of a ≡ 0 → ⊥) → (ran_to a (held (t ++ drop m b) used) ≡ carried (held b used) (opening n)) × Ready (held (t ++ drop m b) used)
+    refused_ready k = and_ready b used h (opening n) (refused b used a t n m of_buffer e k)
+
+    pub accepted_ready : kind_of a ≡ 0 → (ran_to a (held (t ++ drop m b) m) ≡ carried (held b used) (opening n)) × Ready (held (t ++ drop m b) m)
+    accepted_ready k = and_ready b used h (opening n) (accepted b used a t n m of_buffer e k)

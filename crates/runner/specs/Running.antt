@@ -1,15 +1,18 @@
 -- One field carried out on a buffer, part of which is the table (01, "Schedule files"). Assumes nothing.
 use Rattle.std.specs.Prelude.{ℕ, ◌≤◌, ◌≡◌, ◌≢◌, true, cond, List, ◌++◌, ◌==◌, length, take, drop}
+use Rattle.table.specs.declared.sizes.Sizes.{Sizes}
 use Rattle.table.specs.Soundness.{sized}
 use Rattle.table.specs.Words.{sound, length_for}
 use Rattle.rules.specs.OnTable.{Result}
 use Rattle.rules.specs.Calls.{Call}
 use Rattle.rules.specs.Calls.Call.{starts, looks, settles, makes, swaps, retires, sweeps, ends, tallies}
-use Rattle.work.specs.Answers.{kind_of, value_of}
+use Rattle.work.specs.Answers.{Answer, kind_of, value_of}
 use Rattle.reclaim.specs.Promises.{PublicCall, promised}
 use Rattle.reclaim.specs.Promises.PublicCall.{opens, calls}
-use Rattle.schedule.specs.declared.Numbers.{Numbers}
-use Rattle.runner.specs.declared.Ran.{Ran}
+use Rattle.schedule.specs.Fields.{Numbers}
+use Rattle.schedule.specs.Tags.{tag_number}
+use Rattle.schedule.specs.Writing.{five_of}
+use Rattle.schedule.specs.declared.Step.{Step}
 
 -- the program works on a buffer of 4,518 words
 abbrev pub buffer_length : ℕ
@@ -40,9 +43,21 @@ step_of tag n =
 abbrev pub open_of : Numbers → PublicCall
 open_of n = opens n.first n.second n.third n.fourth n.fifth
 
+-- the same numbers as the code's sizes
+abbrev pub sizes_of : Numbers → Sizes
+sizes_of n = record { tasks = n.first; blocks = n.second; slots = n.third; per_epoch = n.fourth; per_sweep = n.fifth }
+
+-- the open of such sizes
+abbrev pub opening : Sizes → PublicCall
+opening s = opens s.tasks s.blocks s.slots s.per_epoch s.per_sweep
+
 -- the call of each tag: 1 opens
 abbrev pub call_of : (tag : ℕ) → Numbers → PublicCall
 call_of tag n = cond (tag == 1) (open_of n) (calls (step_of tag n))
+
+-- the call that a field asks for, as it was read
+abbrev pub asked : Step → PublicCall
+asked field = call_of (tag_number field.tag) (five_of field.numbers)
 
 -- open is lent as many words as its sizes ask for, or the whole buffer where a size is outside its limits; any other step the table
 abbrev pub lent : Held → PublicCall → ℕ
@@ -68,9 +83,18 @@ put_back h c r = record { kind = r.kind; value = r.value; after = held (r.table 
 unfoldable pub carried : Held → PublicCall → Carried
 carried h c = put_back h c (promised (take (lent h c) h.buffer) c)
 
+-- what a field answered, and how many of the buffer's first words are the table after it
+pub record Ran : Type 0 where
+  pub answer : Answer
+  pub used : ℕ
+
 -- what the code answered and left in the buffer
 abbrev pub ran : Ran → List ℕ → Carried
 ran r buffer = record { kind = kind_of r.answer; value = value_of r.answer; after = held buffer r.used }
+
+-- the same of what is held after it
+abbrev pub ran_to : Answer → Held → Carried
+ran_to a h = ran (record { answer = a; used = h.used }) h.buffer
 
 -- what every field finds and leaves: the whole buffer, and a table that is sound where there is one
 pub record Ready (h : Held) : Type 0 where

@@ -2,107 +2,136 @@
 // no step walks it to see whether it is.
 #![tactic(auto)]
 
-ghost use Rattle.std.specs.Prelude.{◌≡◌, true, cond, ◌≤◌};
+ghost use Rattle.std.specs.Prelude.{◌≡◌, ◌≢◌, true, cond, take};
 ghost use Rattle.table.specs.Soundness.{sized};
 ghost use Rattle.table.specs.Words.{sound, state_of, length_for};
 ghost use Rattle.rules.specs.OnTable.{in_words};
 ghost use Rattle.rules.specs.Calls.{step};
 ghost use Rattle.work.specs.Answers.{told};
-ghost use Rattle.reclaim.specs.Promises.PublicCall.{calls};
-ghost use Rattle.runner.specs.Running.{Ready, held, ran, carried, step_of, open_of, call_of};
+ghost use Rattle.schedule.specs.Tags.{tag_number};
+ghost use Rattle.schedule.specs.Writing.{five_of};
+ghost use Rattle.runner.specs.Running.{buffer_length, Held, held, Ready, carried, ran_to, step_of, sizes_of, opening, asked};
 
 use numbers::{Block, Slot, Task};
-use schedule::Numbers;
+use schedule::tags::Tag;
+use schedule::{Numbers, Step};
 use soundness::sizes_sound;
+use std::marker::Model;
+use table::sizes::Sizes;
 use table::words::length_for;
 use work::answers::{Answer, Refusal};
 
-// What a field answered, and how many of the buffer's first words are the table after it: 0 before an accepted open.
-#[derive(Clone, Copy)]
-pub struct Ran {
-    pub answer: Answer,
-    pub used: usize,
+// So many words a run has for its table.
+const WORDS: usize = 4518;
+
+// A run's buffer, and how many of its first words are the table, 0 before an accepted open: an array and a number, for the project has no heap.
+#[derive(Drop)]
+pub struct Runner {
+    buffer: [u32; WORDS],
+    used: usize,
 }
 
-const OPEN: u8 = 1;
+impl Model for Runner {
+    ghost Value = { Held };
 
-// How many words an open of these sizes is lent of a buffer.
-fn lent_to_open(all: usize, n: Numbers) -> usize
-    ensures { result ≡ cond (sized n.first n.second n.third n.fourth n.fifth) (length_for n.first n.second n.third) all }
+    ghost view = { λ r. held r.buffer r.used };
+
+    ghost invariant = { λ r. Ready (held r.buffer r.used) };
+}
+
+// The sizes that an open's numbers are, in their order.
+fn sizes_of(numbers: Numbers) -> Sizes
+    ensures { result ≡ sizes_of (five_of numbers) }
 {
-    if sizes_sound(n.first, n.second, n.third, n.fourth, n.fifth) {
-        length_for(n.first, n.second, n.third)
-    } else {
-        all
+    let [tasks, blocks, slots, per_epoch, per_sweep] = numbers;
+    Sizes {
+        tasks,
+        blocks,
+        slots,
+        per_epoch,
+        per_sweep,
     }
 }
 
-// Open, with the sizes as its numbers.
-fn open(buffer: &mut [u32], used: usize, n: Numbers) -> Ran
-    requires { Ready (held buffer.old used) }
-    ensures { ran result buffer.new ≡ carried (held buffer.old used) (open_of n) }
+// How many words an open of these sizes is lent of the buffer.
+fn lent_to_open(sizes: Sizes) -> usize
+    ensures { result ≡ cond (sized sizes.tasks sizes.blocks sizes.slots sizes.per_epoch sizes.per_sweep) (length_for sizes.tasks sizes.blocks sizes.slots) buffer_length }
 {
-    let lent = lent_to_open(buffer.len(), n);
-    let answer = reclaim::open(
-        &mut buffer[..lent],
-        n.first,
-        n.second,
-        n.third,
-        n.fourth,
-        n.fifth,
-    );
-    if answer.kind() == 0 {
-        Ran { answer, used: lent }
+    if sizes_sound(sizes) {
+        length_for(sizes)
     } else {
-        Ran { answer, used }
+        WORDS
     }
 }
 
 // A step that is not open, on a table that is known to be sound.
 #[tactic(auto, unfolding(crate::specs::Running::step_of))]
-fn step(table: &mut [u32], tag: u8, n: Numbers) -> Answer
-    requires { (sound table.old ≡ true) × (2 ≤ tag) × (tag ≤ 10) }
-    ensures { told result table.new ≡ in_words (step (state_of table.old) (step_of tag n)) }
+fn step(table: &mut [u32], field: Step) -> Answer
+    requires { (sound table.old ≡ true) × (field.tag ≢ Tag.Open) }
+    ensures { told result table.new ≡ in_words (step (state_of table.old) (step_of (tag_number field.tag) (five_of field.numbers))) }
 {
-    match tag {
-        2 => work::start(table, Task(n.first)),
-        3 => work::look(table, Task(n.first), Slot(n.second)),
-        4 => work::settle(table, Task(n.first)),
-        5 => work::make(table, Task(n.first)),
-        6 => work::swap(
+    let [first, second, third, fourth, _] = field.numbers;
+    match field.tag {
+        Tag::Open => unreachable!(),
+        Tag::Start => work::start(table, Task(first)),
+        Tag::Look => work::look(table, Task(first), Slot(second)),
+        Tag::Settle => work::settle(table, Task(first)),
+        Tag::Make => work::make(table, Task(first)),
+        Tag::Swap => work::swap(
             table,
-            Task(n.first),
-            Slot(n.second),
-            Block(n.third),
-            Block(n.fourth),
+            Task(first),
+            Slot(second),
+            Block(third),
+            Block(fourth),
         ),
-        7 => work::retire(table, Task(n.first), Block(n.second)),
-        8 => work::sweep(table, Task(n.first)),
-        9 => work::end(table, Task(n.first)),
-        _ => work::tally(table, n.first),
+        Tag::Retire => work::retire(table, Task(first), Block(second)),
+        Tag::Sweep => work::sweep(table, Task(first)),
+        Tag::End => work::end(table, Task(first)),
+        Tag::Tally => work::tally(table, first),
     }
 }
 
-// A step that is not open, lent the table; before an accepted open there is none.
-#[tactic(auto, using(crate::proofs::Carrying::no_table))]
-fn step_on_table(buffer: &mut [u32], used: usize, tag: u8, n: Numbers) -> Answer
-    requires { Ready (held buffer.old used) × (2 ≤ tag) × (tag ≤ 10) }
-    ensures { ran (record { answer = result; used = used }) buffer.new ≡ carried (held buffer.old used) (calls (step_of tag n)) }
-{
-    if used == 0 {
-        return Answer::Refused(Refusal::Unsound);
+impl Runner {
+    // Nothing is opened yet.
+    pub fn new() -> Runner
+        ensures opened { result.used ≡ 0 }
+        ensures ready { Ready result }
+    {
+        Runner {
+            buffer: [0; WORDS],
+            used: 0,
+        }
     }
-    step(&mut buffer[..used], tag, n)
-}
 
-// A field that was read: one of the ten tags, and the numbers of its body.
-pub fn carry_out(buffer: &mut [u32], used: usize, tag: u8, n: Numbers) -> Ran
-    requires { Ready (held buffer.old used) × (1 ≤ tag) × (tag ≤ 10) }
-    ensures { (ran result buffer.new ≡ carried (held buffer.old used) (call_of tag n)) × Ready (held buffer.new result.used) }
-{
-    if tag == OPEN {
-        return open(buffer, used, n);
+    // The table; no words before an accepted open.
+    pub fn table(&self) -> &[u32]
+        ensures { result.now ≡ take self.now.used self.now.buffer }
+    {
+        &self.buffer[..self.used]
     }
-    let answer = step_on_table(buffer, used, tag, n);
-    Ran { answer, used }
+
+    // Open.
+    fn open(&mut self, sizes: Sizes) -> Answer
+        ensures carried { ran_to result self.new ≡ carried self.old (opening sizes) }
+        ensures ready { Ready self.new }
+    {
+        let lent = lent_to_open(sizes);
+        let reply = reclaim::open(&mut self.buffer[..lent], sizes)?;
+        self.used = lent;
+        Ok(reply)
+    }
+
+    // A field that was read. A step that is not open is lent the table; before an accepted open there is none.
+    pub fn carry_out(&mut self, field: Step) -> Answer
+        ensures carried { ran_to result self.new ≡ carried self.old (asked field) }
+        ensures ready { Ready self.new }
+    {
+        if field.tag == Tag::Open {
+            return self.open(sizes_of(field.numbers));
+        }
+        if self.used == 0 {
+            return Err(Refusal::Unsound);
+        }
+        step(&mut self.buffer[..self.used], field)
+    }
 }

@@ -7,9 +7,7 @@ use native.Mathlib.Nat.{add_assoc}
 use native.Mathlib.Omega.{arith}
 use lib.ListN.{length, get_or, take, drop, length-append, length-drop, take-append-drop}
 use lib.Seq.{get_or-append_seam, take_at, drop_at, drop-append-add, length-take-le, take_all, take-add, drop-cons}
-use Rattle.schedule.specs.declared.Numbers.{Numbers}
-use Rattle.schedule.specs.declared.Field.TheVariants.{Step}
-use Rattle.schedule.specs.Fields.{length_of, number, numbers_of, left, part, fault_kind, field_at}
+use Rattle.schedule.specs.Fields.{Numbers, Step, length_of, number, numbers_of, left, part, fault_kind, field_at}
 use Rattle.schedule.specs.Writing.{bytes_of, body_of, field_of, count_of, size_of, list_of, five_of, Outcome, outcome, placed, field_write}
 use Rattle.schedule.proofs.Bytes.{Below, number_behind, number-bytes, number_body, part_add, below-part, take_read, bytes-number, body_numbers}
 use Rattle.schedule.proofs.Faults as faults

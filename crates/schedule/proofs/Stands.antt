@@ -6,10 +6,7 @@ use lib.Dec.{leb, eqb}
 use lib.ListN.{length, get_or, get_or-eq_default}
 use native.Mathlib.Omega.{arith}
 use borrow.Author.Tests.{eq-eqb, ne_eqb, leb-true, leb-false, eqb-true, eqb-false}
-use Rattle.schedule.specs.declared.Numbers.{Numbers}
-use Rattle.schedule.specs.declared.Field.{Field}
-use Rattle.schedule.specs.declared.Field.TheVariants.{Step, Fault, End}
-use Rattle.schedule.specs.Fields.{lengths, length_of, number, numbers_of, left, part, fault_kind, tagged, field_at}
+use Rattle.schedule.specs.Fields.{Numbers, Field, Step, Fault, End, lengths, length_of, number, numbers_of, left, part, fault_kind, tagged, field_at}
 use Rattle.schedule.proofs.Faults.{by_test, kind_says}
 
 module _ (s : List ℕ) (at : ℕ) where

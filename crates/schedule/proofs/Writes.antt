@@ -1,10 +1,11 @@
 -- What a write answers and leaves, from its kind. Assumes nothing.
 use Prim.Native.Nat.{ℕ, ◌+◌, ◌*◌, ◌≤◌}
-use mathlib.Core.Path.{◌≡◌, refl, ap}
-use mathlib.Core.List.{List}
+use mathlib.Core.Path.{◌≡◌, refl}
+use mathlib.Core.List.{List, append_assoc}
 use lib.Dec.{eqb}
 use lib.ListN.{length}
-use lib.Seq.{sets, sets-eq}
+use lib.Seq.{drop-drop}
+use borrow.Rule.Slice.PartMut.{put_mid}
 use native.Mathlib.Omega.{arith}
 use borrow.Author.Tests.{eqb-true, eqb-false, ne_eqb}
 use Rattle.schedule.specs.Fields.{length_of, left}
@@ -40,8 +41,8 @@ module _ (b : List ℕ) (at tag : ℕ) (ns : List ℕ) where
     unfolding field_write
     made = rw z
 
-    -- stored one after another, the field's bytes are in their place
-    pub done : {value : ℕ} {l : List ℕ} → value ≡ at + size_of tag → l ≡ sets b at (field_of tag ns) → outcome 0 value l ≡ field_write b at tag ns
-    done v e =
-        rw (made, v, e)
-        (ap (outcome 0 (at + size_of tag)) (sets-eq (field_of tag ns) b at (omega (arith, inside.0, inside.1, length_field tag ns))))
+    -- the field's bytes are in their place
+    pub done : {value k : ℕ} {l f : List ℕ} → l ≡ put_mid at k b f → f ≡ field_of tag ns → k ≡ size_of tag → value ≡ at + size_of tag → outcome 0 value l ≡ field_write b at tag ns
+    done {k = k} p e n v =
+        let long : k ≡ length (field_of tag ns) = omega (arith, inside.1, length_field tag ns) in
+        rw (made, v, p, e, long, drop-drop, append_assoc)

@@ -1,8 +1,19 @@
 -- The fields of a schedule (01, "Schedule files"): tags and lengths, the numbers of a body, and what stands at a place. Assumes nothing.
 use Rattle.std.specs.Prelude.{ℕ, zero, suc, ◌+◌, ◌*◌, ◌-◌, cond, not, List, [], ◌∷◌, nat_lt, ◌==◌, length, get_or, take, drop}
-use Rattle.schedule.specs.declared.Numbers.{Numbers}
-use Rattle.schedule.specs.declared.Field.{Field}
-use Rattle.schedule.specs.declared.Field.TheVariants.{Step, Fault, End}
+
+-- the numbers of a body in their order; 0 for those that it has not
+pub record Numbers : Type 0 where
+  pub first : ℕ
+  pub second : ℕ
+  pub third : ℕ
+  pub fourth : ℕ
+  pub fifth : ℕ
+
+-- what stands at a place: a whole field and the place after it, a fault with its kind and the tag byte, or the end
+pub data Field : Type 0 where
+  Step : (tag : ℕ) (numbers : Numbers) (next : ℕ) → Field
+  Fault : (kind tag : ℕ) → Field
+  End : Field
 
 -- entry n is the length of tag n: no tag, open, start, look, settle, make, swap, retire, sweep, end, tally
 abbrev pub lengths : List ℕ

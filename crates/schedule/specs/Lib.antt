@@ -1,2 +1,5 @@
 pub mod Fields
+pub mod Reading
+pub mod Said
+pub mod Tags
 pub mod Writing

@@ -1,7 +1,6 @@
 -- The writing of a field (01, "Schedule files"; the same layout as in Fields): its bytes, the checks, and what a write leaves. Assumes nothing.
 use Rattle.std.specs.Prelude.{ℕ, zero, suc, ◌+◌, ◌/◌, ◌%◌, cond, not, List, [], ◌∷◌, ◌++◌, nat_lt, ◌==◌, length, get_or, take, drop}
-use Rattle.schedule.specs.declared.Numbers.{Numbers}
-use Rattle.schedule.specs.Fields.{length_of, left}
+use Rattle.schedule.specs.Fields.{Numbers, length_of, left}
 
 -- the last n bytes of a number, most significant byte first
 unfoldable pub bytes_of : (n x : ℕ) → List ℕ

@@ -1,35 +1,49 @@
-// The one-field reader of schedule files: what stands at a place of a schedule, and the numbers of a body.
+// The reader of schedule files: what stands at a place of a schedule, the numbers of a body, and the fields one after another.
 #![tactic(auto)]
 
+pub mod tags;
 pub mod writing;
 
-ghost use Rattle.std.specs.Prelude.{◌≡◌, ◌+◌, ◌*◌, ◌≤◌, ◌<◌, length, get_or};
-ghost use Rattle.schedule.specs.Writing.{count_of};
+ghost use Rattle.std.specs.Prelude.{◌≡◌, ◌+◌, ◌*◌, ◌≤◌, ◌<◌, ◌^◌, length, get_or, IfOk};
 ghost use Rattle.schedule.specs.Fields.{number, numbers_of, length_of, fault_kind, field_at};
+ghost use Rattle.schedule.specs.Said.{fault_number, checked, said, FaultAt};
+ghost use Rattle.schedule.specs.Tags.{tag_number};
+ghost use Rattle.schedule.specs.Writing.{five_of};
+
+use std::{array, fmt};
+use tags::{NUMBER, Tag};
 
 // The numbers of a body in their order; 0 for those that it has not.
+pub type Numbers = [u32; 5];
+
+// A step of a schedule.
 #[derive(Clone, Copy)]
-pub struct Numbers {
-    pub first: u32,
-    pub second: u32,
-    pub third: u32,
-    pub fourth: u32,
-    pub fifth: u32,
+pub struct Step {
+    pub tag: Tag,
+    pub numbers: Numbers,
 }
 
-// What stands at a place: a whole field and the place after it, a fault with its kind and the tag byte, or the end.
+// A whole field that was read: its step, and the place after it.
 #[derive(Clone, Copy)]
-pub enum Field {
-    Step {
-        tag: u8,
-        numbers: Numbers,
-        next: usize,
-    },
-    Fault {
-        kind: u32,
-        tag: u8,
-    },
-    End,
+pub struct Read {
+    pub step: Step,
+    pub next: usize,
+}
+
+// Why a field is none: fewer bytes are left than it has, no step has its tag, or its length is not the tag's.
+#[derive(Clone, Copy, PartialEq, Eq)]
+pub enum FaultKind {
+    CutShort = 21,
+    UnknownTag = 22,
+    OtherLength = 23,
+}
+
+// A field that is none, with its place and its tag: the byte as it stands, which may be no step's.
+#[derive(Clone, Copy)]
+pub struct Fault {
+    pub kind: FaultKind,
+    pub tag: u8,
+    pub place: usize,
 }
 
 // A schedule has at most so many bytes.
@@ -38,117 +52,146 @@ pub const MOST_BYTES: usize = 65536;
 // A tag byte and a two-byte length come before a body.
 const HEAD: usize = 3;
 
-// A body's numbers have four bytes each.
-const NUMBER: usize = 4;
+impl From<FaultKind> for u32 {
+    ghost from_gives = { λ kind number. number ≡ fault_number kind };
 
-// The length of each tag's body; 0 where there is no such tag.
-const LENGTHS: [usize; 11] = [0, 20, 4, 8, 4, 4, 16, 8, 4, 4, 4];
-
-// The kind of each check's fault, in the order of the checks.
-const FEWER_THAN_THREE: u32 = 21;
-
-const UNKNOWN_TAG: u32 = 22;
-
-const OTHER_LENGTH: u32 = 23;
-
-const PAST_THE_END: u32 = 21;
-
-// A byte of a slice; one past the end reads as 0.
-fn byte(bytes: &[u8], at: usize) -> u32
-    ensures { (result ≡ get_or bytes.now at 0) × (result < 256) }
-{
-    if at < bytes.len() {
-        bytes[at] as u32
-    } else {
-        0
+    fn from(kind: FaultKind) -> u32 {
+        kind as u32
     }
 }
 
-// Two bytes of a slice, most significant byte first.
-fn two_bytes(bytes: &[u8], at: usize) -> u32
-    requires { at + 1 < 18446744073709551616 }
-    ensures { (result ≡ number 2 bytes.now at) × (result < 65536) }
-{
-    let high = byte(bytes, at);
-    let low = byte(bytes, at + 1);
-    high * 256 + low
+impl fmt::Display for FaultKind {
+    ghost use Rattle.std.specs.Prelude.{Some};
+    ghost use Rattle.schedule.specs.Said.{fault_text};
+
+    ghost output = { λ kind. Some (fault_text kind) };
+
+    fn fmt<W: fmt::Write>(&self, f: &mut fmt::Formatter<W>) -> fmt::Result {
+        f.write_str(match self {
+            FaultKind::CutShort => "the field is cut short",
+            FaultKind::UnknownTag => "no step has this tag",
+            FaultKind::OtherLength => "the length is not the tag's",
+        })
+    }
 }
 
-// The number of a body that has i numbers before it: a body has at most five.
-fn number(body: &[u8], i: usize) -> u32
-    requires { i < 5 }
-    ensures { result ≡ number 4 body.now (4 * i) }
+// A byte of a slice; one past the end reads as 0.
+fn byte(bytes: &[u8], at: usize) -> u8
+    ensures { result ≡ get_or bytes.now at 0 }
 {
-    let at = NUMBER * i;
-    let high = two_bytes(body, at);
-    let low = two_bytes(body, at + 2);
-    high * 65536 + low
+    bytes.get(at).copied().unwrap_or(0)
+}
+
+// The number of four bytes from a place on, most significant byte first.
+fn number(body: &[u8], at: usize) -> u32
+    requires { at + 3 < 2 ^ 64 }
+    ensures { result ≡ number 4 body.now at }
+{
+    u32::from_be_bytes([
+        byte(body, at),
+        byte(body, at + 1),
+        byte(body, at + 2),
+        byte(body, at + 3),
+    ])
 }
 
 // The numbers of a body.
 pub fn numbers_of(body: &[u8]) -> Numbers
-    ensures { result ≡ numbers_of body.now }
+    ensures { five_of result ≡ numbers_of body.now }
 {
-    Numbers {
-        first: number(body, 0),
-        second: number(body, 1),
-        third: number(body, 2),
-        fourth: number(body, 3),
-        fifth: number(body, 4),
-    }
+    array::from_fn(|i| number(body, NUMBER * i))
 }
 
-// The length that a tag asks for.
-fn length_of(tag: u8) -> usize
-    ensures { result ≡ length_of tag }
+// The length that a field says its body has.
+fn length_said(schedule: &[u8], at: usize) -> usize
+    requires { at + 3 ≤ length schedule.now }
+    ensures { result ≡ number 2 schedule.now (at + 1) }
 {
-    let k = tag as usize;
-    if k < 11 { LENGTHS[k] } else { 0 }
+    usize::from(u16::from_be_bytes([schedule[at + 1], schedule[at + 2]]))
 }
 
-// How many numbers a tag has.
-pub fn count_of(tag: u8) -> usize
-    ensures { (result ≡ count_of tag) × (result ≤ 5) }
-{
-    length_of(tag) / NUMBER
-}
-
-// The kind of the first check that fails, where bytes are left and the tag asks for so many bytes; 0 where none fails.
-fn fault_kind(schedule: &[u8], at: usize, asked: usize) -> u32
+// The tag of the field at a place where bytes are left, or the kind of the first check that fails.
+fn checked_tag(schedule: &[u8], at: usize) -> Result<Tag, FaultKind>
     requires { at < length schedule.now }
-    ensures { result ≡ fault_kind schedule.now at asked }
+    ensures kind { checked result ≡ fault_kind schedule.now at (length_of (get_or schedule.now at 0)) }
+    ensures tag { IfOk result (λ tag. tag_number tag ≡ get_or schedule.now at 0) }
 {
     let left = schedule.len() - at;
     if left < HEAD {
-        return FEWER_THAN_THREE;
+        return Err(FaultKind::CutShort);
     }
-    if asked == 0 {
-        return UNKNOWN_TAG;
-    }
-    if two_bytes(schedule, at + 1) as usize != asked {
-        return OTHER_LENGTH;
+    let tag = Tag::of(schedule[at]).ok_or(FaultKind::UnknownTag)?;
+    let asked = tag.length();
+    if length_said(schedule, at) != asked {
+        return Err(FaultKind::OtherLength);
     }
     if left - HEAD < asked {
-        return PAST_THE_END;
+        return Err(FaultKind::CutShort);
     }
-    0
+    Ok(tag)
 }
 
-// What stands at a place of a schedule. A body is handed on as a part of the schedule from where it begins.
-pub fn field_at(schedule: &[u8], at: usize) -> Field
-    ensures { result ≡ field_at schedule.now at }
+// What stands at a place of a schedule: nothing at its end, a whole field, or a fault.
+pub fn field_at(schedule: &[u8], at: usize) -> Option<Result<Read, Fault>>
+    ensures field { said result ≡ field_at schedule.now at }
+    ensures place { FaultAt at result }
 {
-    if schedule.len() <= at {
-        return Field::End;
+    let byte = *schedule.get(at)?;
+    match checked_tag(schedule, at) {
+        Err(kind) => Some(Err(Fault {
+            kind,
+            tag: byte,
+            place: at,
+        })),
+        Ok(tag) => {
+            let start = at + HEAD;
+            let next = start + tag.length();
+            let numbers = numbers_of(&schedule[start..next]);
+            Some(Ok(Read {
+                step: Step { tag, numbers },
+                next,
+            }))
+        }
     }
-    let tag = schedule[at];
-    let asked = length_of(tag);
-    let kind = fault_kind(schedule, at, asked);
-    if kind != 0 {
-        return Field::Fault { kind, tag };
+}
+
+// The fields of a schedule one after another: each step, and then a fault if one field is none.
+#[derive(Drop)]
+pub struct Fields<'a> {
+    schedule: &'a [u8],
+    place: usize,
+}
+
+impl<'a> Fields<'a> {
+    pub fn of(schedule: &'a [u8]) -> Fields<'a>
+        ensures schedule { result.schedule.now ≡ schedule.now }
+        ensures start { result.place ≡ 0 }
+    {
+        Fields { schedule, place: 0 }
     }
-    let start = at + HEAD;
-    let next = start + asked;
-    let numbers = numbers_of(&schedule[start..next]);
-    Field::Step { tag, numbers, next }
+}
+
+impl<'a> Iterator for Fields<'a> {
+    ghost use Rattle.std.specs.Iterator.{at_most};
+    ghost use Rattle.schedule.specs.Fields.{left};
+    ghost use Rattle.schedule.specs.Reading.{GivesField};
+
+    type Item = Result<Step, Fault>;
+
+    ghost next_gives = { GivesField };
+
+    ghost remaining = { λ reader. at_most (left reader.schedule.now reader.place) };
+
+    fn next(&mut self) -> Option<Result<Step, Fault>> {
+        match field_at(self.schedule, self.place)? {
+            Ok(read) => {
+                self.place = read.next;
+                Some(Ok(read.step))
+            }
+            Err(fault) => {
+                self.place = self.schedule.len();
+                Some(Err(fault))
+            }
+        }
+    }
 }

@@ -8,6 +8,5 @@ use streams::{read_full, unless_left};
 fn main(rt: HostRuntime) -> io::Result<()> {
     // One byte more than a schedule may have, so that a longer one is seen to be longer.
     let mut input = [0u8; 65537];
-    let n = read_full(rt.stdin(), &mut input);
-    unless_left(print_run(&rt, &input[..n]))
+    unless_left(print_run(&rt, read_full(rt.stdin(), &mut input)))
 }

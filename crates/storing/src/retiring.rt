@@ -7,7 +7,7 @@ ghost use Rattle.rules.specs.OnTable.{result_of, in_words};
 use effects::retired;
 use numbers::{Block, Task};
 use table::words::{block_at, epoch, per_sweep, put_block};
-use walks::counting::{Wanted, count};
+use walks::counting::retired_by;
 use walks::sweeping::sweep_blocks;
 
 // Whether the number of blocks retired by the task is divisible by E.
@@ -15,7 +15,7 @@ fn sweeps_now(table: &[u32], task: Task) -> bool
     requires { Exact table.now × (1 ≤ (state_of table.now).per_sweep) }
     ensures { result ≡ sweeps_now (state_of table.now) task.0 }
 {
-    count(table, Wanted::RetiredBy(task)) % per_sweep(table) == 0
+    retired_by(table, task) % per_sweep(table) == 0
 }
 
 // Retires the block, sweeps where that follows, and returns how many blocks were freed.

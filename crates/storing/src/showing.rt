@@ -8,14 +8,14 @@ ghost use Rattle.rules.specs.Steps.{in_hand, shown_in};
 
 use effects::shown;
 use numbers::{Block, Slot, Task};
-use table::records::BlockRecord;
+use table::records::{BlockRecord, BlockState};
 use table::words::{block_at, put_block, put_slot};
 
 // A shown block, or one that the task made.
 pub fn in_hand(task: Task, b: BlockRecord) -> bool
     ensures { result ≡ in_hand task.0 (block_row b) }
 {
-    (b.state == BlockRecord::SHOWN) | (b.state == BlockRecord::MADE) & (b.task.0 == task.0)
+    (b.state == BlockState::SHOWN) | (b.state == BlockState::MADE) & (b.task == task)
 }
 
 // Whether a swap may put the block into a slot; block 0 empties it.
@@ -23,10 +23,7 @@ pub fn may_show(table: &[u32], task: Task, block: Block) -> bool
     requires { Exact table.now × (block.0 ≤ length (state_of table.now).blocks) }
     ensures { result ≡ block.0 == 0 || in_hand task.0 (block_of (state_of table.now) block.0) }
 {
-    if block.0 == 0 {
-        return true;
-    }
-    in_hand(task, block_at(table, block))
+    (block == Block::NONE) || in_hand(task, block_at(table, block))
 }
 
 // A made block becomes shown; any other stays.
@@ -35,7 +32,7 @@ fn show(table: &mut [u32], block: Block)
     ensures { table.new ≡ words (with_block (state_of table.old) block.0 (shown_if_made (block_of (state_of table.old) block.0))) }
 {
     let r = block_at(table, block);
-    if r.state == BlockRecord::MADE {
+    if r.state == BlockState::MADE {
         put_block(table, block, shown(r));
     }
 }
@@ -46,7 +43,7 @@ pub fn put_shown(table: &mut [u32], slot: Slot, block: Block)
     ensures { table.new ≡ words (shown_in (state_of table.old) slot.0 block.0) }
 {
     put_slot(table, slot, block);
-    if block.0 != 0 {
+    if block != Block::NONE {
         show(table, block);
     }
 }

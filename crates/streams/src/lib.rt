@@ -7,18 +7,19 @@ ghost use Rattle.std.specs.IoError.{error_kind};
 use std::io;
 use std::io::{ErrorKind, Read, Stdin};
 
-// Reads until the buffer is full, the input ends or a read fails: how many bytes there are at the start of the buffer.
-pub fn read_full(mut input: Stdin, buffer: &mut [u8]) -> usize
-    ensures { result ≤ length buffer.new }
+// Reads until the buffer is full, the input ends or a read fails: the buffer's first part, which was read. (The library's read_to_end wants a heap.)
+pub fn read_full<'a>(mut input: Stdin, buffer: &'a mut [u8]) -> &'a [u8]
+    ensures within { length result.now ≤ length buffer.old }
+    ensures front { result.ref_ptr ≡ buffer.entry.ref_ptr }
 {
     let mut done = 0;
     while done < buffer.len() {
         match input.read(&mut buffer[done..]) {
             Ok(n) if n > 0 => done += n,
-            _ => return done,
+            _ => break,
         }
     }
-    done
+    &buffer[..done]
 }
 
 // As the output ended, but well where its reader has left, which wants no more.

@@ -1,15 +1,15 @@
 -- Laws of loops that go along a list. Assumes nothing.
 use Prim.Native.Nat.{ℕ, zero, suc, ◌+◌, ◌≤◌, ◌<◌}
 use mathlib.Core.Path.{◌≡◌, refl, ap}
-use mathlib.Core.Bool.{Bool, ◌&&◌}
+use mathlib.Core.Bool.{Bool, true, false, cond}
 use mathlib.Core.List.{List, [], ◌∷◌, map}
 use native.Mathlib.Nat.{le_of_suc-le-suc}
 use native.Mathlib.Numerals.{add-one}
 use native.Mathlib.Omega.{arith}
 use lib.ListN.{length, get_or, set, drop, drop_of_length-le}
 use lib.Seq.{drop-cons}
-use Rattle.table.specs.Lists.{all}
-use Rattle.table.proofs.Tests.{and_assoc, and_true}
+use Rattle.std.specs.Int.{from_bool}
+use Rattle.table.specs.Lists.{count}
 
 -- what is left of the list at i begins with the next element, and is empty past the end
 module _ {A : Type 0} (xs : List A) (i : ℕ) where
@@ -19,13 +19,14 @@ module _ {A : Type 0} (xs : List A) (i : ℕ) where
   pub ended : length xs ≤ i → drop i xs ≡ []
   ended h = drop_of_length-le xs h
 
--- a loop that tests the elements one by one: ok says that the first i pass, and those that are left decide
-module _ {A : Type 0} (f : A → Bool) (xs : List A) (i : ℕ) (ok : Bool) where
-  pub all-step : (d : A) (r : Bool) → i < length xs → f (get_or xs i d) ≡ r → ok && all f (drop i xs) ≡ (ok && r) && all f (drop (i + 1) xs)
-  all-step d r h e = rw (next xs i d h, e) (and_assoc ok r (all f (drop (i + 1) xs)))
-
-  pub all_done : length xs ≤ i → ok && all f (drop i xs) ≡ ok
-  all_done h = rw (ended xs i h) (and_true ok)
+-- a loop that counts them: found says how many of the first i pass, with those that are left
+module _ {A : Type 0} (f : A → Bool) (xs : List A) (i : ℕ) where
+  pub count-step : (found : ℕ) (d : A) (b : Bool) → i < length xs → b ≡ f (get_or xs i d) → found + count f (drop i xs) ≡ (found + from_bool b) + count f (drop (i + 1) xs)
+  count-step found d b h e = rw (next xs i d h, ← e) (one b)
+    where
+      one : (b : Bool) → found + (cond b 1 0 + count f (drop (i + 1) xs)) ≡ (found + from_bool b) + count f (drop (i + 1) xs)
+      one true = omega arith
+      one false = omega arith
 
 -- a loop that changes the elements one by one: g has been applied to the first i
 module _ {A : Type 0} (g : A → A) where

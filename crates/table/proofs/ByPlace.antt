@@ -42,6 +42,10 @@ module _ {A : Type 0} where
   pub some_at : (f : A → Bool) (l : List A) (d : A) (i : ℕ) → i < length l → f (get_or l i d) ≡ true → some f l ≡ true
   some_at f l d i h e = decide (some f l) (λ p. p) (λ p. absurd (true≢false (sym e ∙ none_at f l d i h p)))
 
+  pub none_of : (f : A → Bool) (l : List A) (d : A) → ((i : ℕ) → i < length l → f (get_or l i d) ≡ false) → some f l ≡ false
+  none_of f [] d h = refl
+  none_of f (x ∷ xs) d h = rw (h 0 (omega arith)) (none_of f xs d (λ i l. h (suc i) (omega arith)))
+
   pub some_weaken : (f g : A → Bool) (l : List A) → ((x : A) → f x ≡ true → g x ≡ true) → some f l ≡ true → some g l ≡ true
   some_weaken f g [] h e = e
   some_weaken f g (x ∷ xs) h e = either (f x) _ e (λ p. rw (h x p)) (λ p. or_right (g x) _ (some_weaken f g xs h p))
@@ -56,6 +60,18 @@ module _ {A : Type 0} where
   pub first_none : (f : A → Bool) (n : ℕ) (l : List A) → eqb (first f (suc n) l) 0 ≡ not (some f l)
   first_none f n [] = refl
   first_none f n (x ∷ xs) = decide (f x) (λ p. rw p (ne_eqb (suc n) 0 (λ z. omega arith))) (λ p. rw p (first_none f (suc n) xs))
+
+  -- and the first that passes is the one that no place before does
+  pub first_zero : (f : A → Bool) (n : ℕ) (l : List A) (d : A) → ((i : ℕ) → i < length l → f (get_or l i d) ≡ false) → first f n l ≡ 0
+  first_zero f n [] d h = refl
+  first_zero f n (x ∷ xs) d h = rw (h 0 (omega arith)) (first_zero f (suc n) xs d (λ i l. h (suc i) (omega arith)))
+
+  pub first_is : (f : A → Bool) (n : ℕ) (l : List A) (d : A) (i : ℕ) → i < length l → f (get_or l i d) ≡ true → ((k : ℕ) → k < i → f (get_or l k d) ≡ false) → first f n l ≡ n + i
+  first_is f n [] d i h e none = absurd (not-suc-le-zero h)
+  first_is f n (x ∷ xs) d zero h e none = rw e (omega arith)
+  first_is f n (x ∷ xs) d (suc i) h e none =
+      let more : first f (suc n) xs ≡ suc n + i = first_is f (suc n) xs d i (le_of_suc-le-suc h) e (λ k l. none (suc k) (omega arith)) in
+      rw (none 0 (omega arith)) (omega (arith, more))
 
   -- what stands at each place after a `set`: what stood there, but for one place
   pub at_set : (R : ℕ → A → A → Type 0) (l : List A) (i : ℕ) (x d : A) → ((j : ℕ) → R j (get_or l j d) (get_or l j d)) → (i < length l → R i (get_or l i d) x)

@@ -2,6 +2,7 @@
 pub mod Tests
 pub mod ByPlace
 pub mod Along
+pub mod Ranges
 pub mod Flat
 pub mod Places
 pub mod Blanks

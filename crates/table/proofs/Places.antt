@@ -255,3 +255,6 @@ module _ (t : List ℕ) (h : Exact t) where
 pub block_same : (t : List ℕ) → Exact t → (b : ℕ) → t ≡ words (with_block (state_of t) b (block_of (state_of t) b))
 block_same t h zero = sym (words-state_of t h)
 block_same t h (suc i) = sym (words-state_of t h) ∙ ap (λ (bs : List BlockRow). words (with_blocks (state_of t) bs)) (sym (set-get_or (state_of t).blocks i free_block))
+
+-- what a place reads as, and what a store there leaves
+pub ruleset places = (tasks_read, blocks_read, slots_read, per_epoch_read, per_sweep_read, epoch_read, task_read, block_read, slot_read, epoch_put, interval_put, slot_put)

@@ -19,10 +19,10 @@ candidate_of Working = 0
 candidate_of (Looked b) = b.0
 
 abbrev pub task_row : TaskRecord → TaskRow
-task_row r = record { lower = r.lower.0; upper = r.upper.0; makes = r.makes; phase = phase_number r.phase; candidate = candidate_of r.phase }
+task_row r = record { lower = r.interval.lower.0; upper = r.interval.upper.0; makes = r.makes; phase = phase_number r.phase; candidate = candidate_of r.phase }
 
 abbrev pub words_row : TaskWords → TaskRow
-words_row r = record { lower = r.lower.0; upper = r.upper.0; makes = r.makes; phase = r.phase; candidate = r.candidate }
+words_row r = record { lower = r.interval.lower.0; upper = r.interval.upper.0; makes = r.makes; phase = r.phase; candidate = r.candidate }
 
 abbrev pub block_row : BlockRecord → BlockRow
-block_row r = record { state = r.state; task = r.task.0; birth = r.birth.0; retire = r.retire.0 }
+block_row r = record { state = r.state.0; task = r.task.0; birth = r.birth.0; retire = r.retire.0 }

@@ -1,52 +1,54 @@
 // The records of a task and of a block, by value.
-ghost use Rattle.std.specs.Prelude.{◌≡◌, ◌≤◌, ◌<◌};
+ghost use Rattle.std.specs.Prelude.{◌≡◌, ◌≤◌, ◌<◌, ◌==◌, ◌||◌};
 ghost use Rattle.table.specs.Records.{phase_number, candidate_of};
 
-use numbers::{Block, Epoch, Task};
+use numbers::{Block, Epoch, Interval, Task};
 
 // A task is idle, or at work, or at work with a look outstanding, which carries the candidate.
-#[derive(Clone, Copy)]
+#[derive(Clone, Copy, PartialEq, Eq)]
 pub enum Phase {
     Idle,
     Working,
     Looked(Block),
 }
 
-#[derive(Clone, Copy)]
+#[derive(Clone, Copy, PartialEq, Eq)]
 pub struct TaskRecord {
-    pub lower: Epoch,
-    pub upper: Epoch,
+    pub interval: Interval,
     pub makes: u32,
     pub phase: Phase,
 }
 
-// A task's words as they stand, whatever they say.
-#[derive(Clone, Copy)]
+// A task's words as they stand, whatever they say. One generic record for both would want a third type, for the two words of a phase.
+#[derive(Clone, Copy, PartialEq, Eq)]
 pub struct TaskWords {
-    pub lower: Epoch,
-    pub upper: Epoch,
+    pub interval: Interval,
     pub makes: u32,
     pub phase: u32,
     pub candidate: u32,
 }
 
-// A block, whose state is one of the four below.
-#[derive(Clone, Copy)]
+// A block's state: one of the four below in a sound table. No enum, since any table's blocks are read, and what `block_at` promises of a word that
+// is no state may not change.
+#[derive(Clone, Copy, PartialEq, Eq)]
+pub struct BlockState(pub u32);
+
+#[derive(Clone, Copy, PartialEq, Eq)]
 pub struct BlockRecord {
-    pub state: u32,
+    pub state: BlockState,
     pub task: Task,
     pub birth: Epoch,
     pub retire: Epoch,
 }
 
-impl BlockRecord {
-    pub const FREE: u32 = 0;
+impl BlockState {
+    pub const FREE: BlockState = BlockState(0);
 
-    pub const MADE: u32 = 1;
+    pub const MADE: BlockState = BlockState(1);
 
-    pub const SHOWN: u32 = 2;
+    pub const SHOWN: BlockState = BlockState(2);
 
-    pub const RETIRED: u32 = 3;
+    pub const RETIRED: BlockState = BlockState(3);
 }
 
 impl Phase {
@@ -60,6 +62,25 @@ impl Phase {
             1 => Phase::Working,
             _ => Phase::Looked(candidate),
         }
+    }
+
+    pub fn is_idle(self) -> bool
+        ensures { result ≡ phase_number self == 0 }
+    {
+        self == Phase::Idle
+    }
+
+    pub fn is_looking(self) -> bool
+        ensures { result ≡ phase_number self == 2 }
+    {
+        matches!(self, Phase::Looked(_))
+    }
+
+    // At work, with a look outstanding or not.
+    pub fn is_working(self) -> bool
+        ensures { result ≡ phase_number self == 1 || phase_number self == 2 }
+    {
+        self != Phase::Idle
     }
 
     pub fn number(self) -> u32
@@ -76,8 +97,7 @@ impl Phase {
         ensures { result.0 ≡ candidate_of self }
     {
         match self {
-            Phase::Idle => Block(0),
-            Phase::Working => Block(0),
+            Phase::Idle | Phase::Working => Block::NONE,
             Phase::Looked(b) => b,
         }
     }

@@ -3,44 +3,26 @@
 
 ghost use Rattle.std.specs.Prelude.{◌≤◌};
 
-use runner::carry_out;
-use schedule::{Field, field_at};
+use runner::Runner;
+use schedule::Fields;
 use soundness::is_sound;
 
-// 2 where the table was walked and is sound, else 1.
+// 2 where the table was walked and is sound, else 1. Numbers for both, since the bench calls through C.
 fn walked(table: &[u32], walk: u32) -> u64
     ensures { result ≤ 2 }
 {
-    if walk == 0 {
-        return 1;
-    }
-    if is_sound(table) {
-        return 2;
-    }
-    1
+    if walk != 0 && is_sound(table) { 2 } else { 1 }
 }
 
 // Carries out the fields one after another, and returns the sum of what `walked` gave before each.
 #[unsafe(no_mangle)]
 pub extern "C" fn kavdrell_timing(schedule: &[u8], walk: u32) -> u64 {
-    let mut buffer = [0u32; 4518];
-    let mut used: usize = 0;
-    let mut at: usize = 0;
+    let mut runner = Runner::new();
     let mut sum: u64 = 0;
-    loop {
-        match field_at(schedule, at) {
-            Field::Step { tag, numbers, next } => {
-                sum += walked(&buffer[..used], walk);
-                let ran = carry_out(&mut buffer, used, tag, numbers);
-                used = ran.used;
-                at = next;
-            }
-            Field::Fault { kind: _, tag: _ } => {
-                return sum;
-            }
-            Field::End => {
-                return sum;
-            }
-        }
+    for field in Fields::of(schedule) {
+        let Ok(step) = field else { break };
+        sum += walked(runner.table(), walk);
+        let _ = runner.carry_out(step);
     }
+    sum
 }

@@ -1,12 +1,9 @@
 -- Which blocks a count counts. Assumes nothing.
-use Rattle.std.specs.Prelude.{Bool}
+use Rattle.std.specs.Prelude.{◌≡◌, Bool}
+use Rattle.table.specs.declared.records.BlockRecord.{BlockRecord}
+use Rattle.table.specs.Records.{block_row}
 use Rattle.table.specs.State.{BlockRow}
-use Rattle.rules.specs.Sweeping.{retired_by}
-use Rattle.rules.specs.Steps.{in_state, made_by}
-use Rattle.walks.specs.declared.counting.Wanted.{Wanted}
-use Rattle.walks.specs.declared.counting.Wanted.TheVariants.{InState, MadeBy, RetiredBy}
 
-abbrev pub wants : Wanted → BlockRow → Bool
-wants (InState state) = in_state state
-wants (MadeBy task) = made_by task.0
-wants (RetiredBy task) = retired_by task.0
+-- what a test answers of a record is what another says of its row
+abbrev pub Decides : (BlockRecord → Bool → Type 0) → (BlockRow → Bool) → Type 0
+Decides answers test = (b : BlockRecord) (r : Bool) → answers b r → r ≡ test (block_row b)

@@ -4,17 +4,14 @@ ghost use Rattle.numbers.specs.Epochs.{idle_mark};
 ghost use Rattle.table.specs.State.{with_interval, with_tasks};
 ghost use Rattle.table.specs.Words.{Exact, state_of, words};
 
-use numbers::{Epoch, Task};
+use numbers::{Interval, Task};
 use table::words::{put_interval, tasks};
 
 pub fn put_idle(table: &mut [u32])
     requires { Exact table.old }
     ensures { table.new ≡ words (with_tasks (state_of table.old) (map (with_interval idle_mark idle_mark) (state_of table.old).tasks)) }
 {
-    let n = tasks(table);
-    let mut i = 0;
-    while i < n {
-        put_interval(table, Task(i), Epoch::IDLE, Epoch::IDLE);
-        i += 1;
+    for i in 0..tasks(table) {
+        put_interval(table, Task(i), Interval::IDLE);
     }
 }

@@ -7,7 +7,7 @@ ghost use Rattle.rules.specs.Sweeping.{unmet, frees, after_sweep, freed_by, swep
 
 use effects::freed;
 use numbers::{Block, Epoch, Task};
-use table::records::BlockRecord;
+use table::records::{BlockRecord, BlockState};
 use table::words::{block_at, blocks, put_block, task_words, tasks};
 
 // Whether no task's interval meets the block.
@@ -15,43 +15,32 @@ fn unmet(table: &[u32], b: BlockRecord) -> bool
     requires { Exact table.now }
     ensures { result ≡ unmet (state_of table.now).tasks (block_row b) }
 {
-    let n = tasks(table);
-    let mut i = 0;
-    while i < n {
-        let k = task_words(table, Task(i));
-        if Epoch::meets(k.lower, k.upper, b.birth, b.retire) {
-            return false;
-        }
-        i += 1;
-    }
-    true
+    !(0..tasks(table)).any(|i| {
+        let interval = task_words(table, Task(i)).interval;
+        Epoch::meets(interval, b.birth, b.retire)
+    })
 }
 
 // Whether a sweep of the task frees the block. The intervals are read only for a block that the task has retired.
+#[tactic(auto, unfolding(rules::specs::Sweeping::frees))]
 fn frees(table: &[u32], task: Task, b: BlockRecord) -> bool
     requires { Exact table.now }
     ensures { result ≡ frees (state_of table.now).tasks task.0 (block_row b) }
 {
-    if (b.state == BlockRecord::RETIRED) & (b.task.0 == task.0) {
-        unmet(table, b)
-    } else {
-        false
-    }
+    (b.state == BlockState::RETIRED) && (b.task == task) && unmet(table, b)
 }
 
-// Sweeps one block, and returns how many that freed.
-fn sweep_block(table: &mut [u32], task: Task, block: Block) -> u32
+// Sweeps one block, and returns whether that freed it.
+fn sweep_block(table: &mut [u32], task: Task, block: Block) -> bool
     requires { Exact table.old × (1 ≤ block.0) × (block.0 ≤ length (state_of table.old).blocks) }
-    ensures { (result ≡ cond (frees (state_of table.old).tasks task.0 (block_of (state_of table.old) block.0)) 1 0) × (result ≤ 1)
+    ensures { (result ≡ frees (state_of table.old).tasks task.0 (block_of (state_of table.old) block.0))
         × (table.new ≡ words (with_block (state_of table.old) block.0 (after_sweep (state_of table.old).tasks task.0 (block_of (state_of table.old) block.0)))) }
 {
-    let r = block_at(table, block);
-    if frees(table, task, r) {
+    let frees = frees(table, task, block_at(table, block));
+    if frees {
         put_block(table, block, freed());
-        1
-    } else {
-        0
     }
+    frees
 }
 
 // Sweeps every block, and returns how many were freed.
@@ -59,12 +48,9 @@ pub fn sweep_blocks(table: &mut [u32], task: Task) -> u32
     requires { Exact table.old }
     ensures { (result ≡ freed_by (state_of table.old) task.0) × (table.new ≡ words (swept (state_of table.old) task.0)) }
 {
-    let n = blocks(table);
     let mut freed = 0;
-    let mut i = 0;
-    while i < n {
-        freed += sweep_block(table, task, Block(i + 1));
-        i += 1;
+    for i in 0..blocks(table) {
+        freed += u32::from(sweep_block(table, task, Block(i + 1)));
     }
     freed
 }

@@ -1,6 +1,7 @@
 -- A step on a task of a sound table: refused by its first checks, refused by a later one, or done. Assumes nothing.
+use Rattle.std.specs.Prelude.{Result, Err}
 use Prim.Native.Nat.{ℕ, ◌≤◌, ◌<◌}
-use mathlib.Core.Path.{◌≡◌, sym, ap, ◌∙◌, subst}
+use mathlib.Core.Path.{◌≡◌, sym, ap, ◌∙◌}
 use mathlib.Core.Bool.{Bool, true, false}
 use mathlib.Core.List.{List}
 use lib.ListN.{length}
@@ -12,12 +13,9 @@ use Rattle.table.proofs.Sound.{exact}
 use Rattle.rules.specs.Outcome.{Outcome, answers}
 use Rattle.rules.specs.OnTable.{result_of, in_words}
 use Rattle.work.specs.Answers.{told}
-use Rattle.work.specs.Entering.{asks, entering, Inside, Entered}
-use Rattle.work.specs.declared.answers.Answer.TheVariants.{Refused}
+use Rattle.work.specs.Entering.{entering, Inside}
+use Rattle.work.specs.declared.answers.Reply.{Reply}
 use Rattle.work.specs.declared.answers.Refusal.{Refusal}
-use Rattle.work.specs.declared.entering.Asked.{Asked}
-use Rattle.work.specs.declared.entering.Entry.{Entry}
-use Rattle.work.specs.declared.entering.Entry.TheVariants.{At, Out}
 use Rattle.table.specs.declared.records.TaskRecord.{TaskRecord}
 
 -- a refusal leaves every word as it was
@@ -38,19 +36,15 @@ module _ (s : State) (k : ℕ) (asked : TaskRow → Bool) (rest : Outcome) where
   unfolding entering
   entered h w = rw (lt-leb (length s.tasks) k h, w)
 
--- what is known of an entry once it is taken apart
-module _ (t : List ℕ) (k : ℕ) (asked : Asked) (entry : Entry) (h : Entered t k asked entry) where
-  pub at : {r : TaskRecord} → entry ≡ At r → Inside t k asked r
-  at p = subst (Entered t k asked) p h
-
-  -- an outcome that enters is refused where its entry is
-  pub out : {x : Refusal} → entry ≡ Out x → {o : Outcome} (rest : Outcome) → o ≡ entering (asks asked) (state_of t) k rest → told (Refused x) t ≡ in_words o
-  out p rest q = subst (Entered t k asked) p h rest ∙ ap in_words (sym q)
+-- an outcome that enters is refused where its entry is
+pub out : (t : List ℕ) (k : ℕ) (asked : TaskRow → Bool) {x : Refusal} {answer : Result Reply Refusal} → answer ≡ Err x → ((rest : Outcome) → told (Err x) t ≡ in_words (entering asked (state_of t) k rest))
+    → {o : Outcome} (rest : Outcome) → o ≡ entering asked (state_of t) k rest → told answer t ≡ in_words o
+out t k asked e h rest q = rw e (h rest) ∙ ap in_words (sym q)
 
 -- past the entry, an outcome is what the rest of its step is: a refusal, or what was done
-module _ (t : List ℕ) (k : ℕ) (asked : Asked) (r : TaskRecord) (h : Inside t k asked r) (o rest : Outcome) (q : o ≡ entering (asks asked) (state_of t) k rest) where
+module _ (t : List ℕ) (k : ℕ) (asked : TaskRow → Bool) (r : TaskRecord) (h : Inside t k asked r) (o rest : Outcome) (q : o ≡ entering asked (state_of t) k rest) where
   pub own : sound t ≡ true → (n : ℕ) → rest ≡ answers n 0 (state_of t) → result_of n 0 t ≡ in_words o
-  own e n p = refused t e n ∙ ap in_words (sym (q ∙ entered (state_of t) k (asks asked) rest h.below h.phase ∙ p))
+  own e n p = refused t e n ∙ ap in_words (sym (q ∙ entered (state_of t) k asked rest h.below h.phase ∙ p))
 
   pub does : (n v : ℕ) (s' : State) → rest ≡ answers n v s' → result_of n v (words s') ≡ in_words o
-  does n v s' p = ap in_words (sym (q ∙ entered (state_of t) k (asks asked) rest h.below h.phase ∙ p))
+  does n v s' p = ap in_words (sym (q ∙ entered (state_of t) k asked rest h.below h.phase ∙ p))

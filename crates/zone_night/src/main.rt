@@ -5,7 +5,9 @@
 use numbers::{Block, Slot, Task};
 use std::io;
 use streams::unless_left;
-use zones::requests::Request;
+use table::sizes::Sizes;
+use work::answers::{Answer, Reply};
+use zones::requests::{Request, Stores};
 
 const LOGGER: Task = Task(0);
 
@@ -13,139 +15,145 @@ const DESK: Task = Task(1);
 
 const SLOT: Slot = Slot(0);
 
+// Two tasks share four blocks by one slot.
+const SIZES: Sizes = Sizes {
+    tasks: 2,
+    blocks: 4,
+    slots: 1,
+    per_epoch: 2,
+    per_sweep: 1,
+};
+
 // −210 and +210 minutes, each with its name.
-const MINUS_210: [u8; 8] = [255, 46, 78, 45, 48, 51, 51, 48];
+const MINUS_210: [u8; 8] = *b"\xff\x2eN-0330";
 
-const PLUS_210: [u8; 8] = [0, 210, 73, 43, 48, 51, 51, 48];
+const PLUS_210: [u8; 8] = *b"\x00\xd2I+0330";
 
-// Writes the eight bytes of a block's record, of one of the room's four blocks.
-fn put(room: &mut [u8; 32], block: u32, bytes: &[u8; 8]) {
-    if block == 0 {
-        return;
-    }
-    if 4 < block {
-        return;
-    }
-    let at = 8 * ((block - 1) as usize);
-    let mut i = 0;
-    while i < 8 {
-        room[at + i] = bytes[i];
-        i += 1;
+// The value of a step that is done: the story knows no other answer.
+fn done(answer: Answer) -> io::Result<u32> {
+    match answer {
+        Ok(Reply::Done(value)) => Ok(value),
+        Ok(Reply::LookAgain) | Err(_) => Err(io::Error::other("a step isn't done")),
     }
 }
 
-// One line: words, and a number below 10.
-fn say(rt: &impl Print, words: &str, number: u32) -> io::Result<()> {
-    if number < 10 {
-        println!(rt; "{words}{number}")
-    } else {
-        println!(rt; "{words}?")
+fn no_record() -> io::Error {
+    io::Error::other("no such record")
+}
+
+// The lent table, the fixed table, the room of four blocks, and where the lines go.
+#[derive(Drop)]
+struct Night<'a, P: Print> {
+    rt: &'a P,
+    table: [u32; 33],
+    fixed: [u8; 248],
+    room: [[u8; 8]; 4],
+}
+
+impl<'a, P: Print> Night<'a, P> {
+    fn open(rt: &'a P) -> io::Result<Night<'a, P>> {
+        let mut table = [0; 33];
+        done(reclaim::open(&mut table, SIZES))?;
+        Ok(Night {
+            rt,
+            table,
+            fixed: zones::records::fixed_table(),
+            room: [[0; 8]; 4],
+        })
     }
-}
 
-// One line: who reads, the ZONE characters of the block's record, and its name, which is written from where it lies in the room.
-fn tell(
-    rt: &impl Print,
-    who: &str,
-    table: &[u8; 248],
-    room: &[u8; 32],
-    block: u32,
-) -> io::Result<()> {
-    let request = Request::Block(Block(block));
-    let part = zones::requests::record(table, room, request);
-    print!(rt; "{who}")?;
-    if part.len() != 8 {
-        return println!(rt; "no record");
+    // One line: words, and a number.
+    fn say(&self, words: &str, number: u32) -> io::Result<()> {
+        println!(self.rt; "{words}{number}")
     }
-    let mut zone = [0u8; 5];
-    zone_text::write_zone(
-        zones::requests::minutes(table, room, request).minutes,
-        &mut zone,
-    );
-    rt.write_all(&zone)?;
-    print!(rt; " ")?;
-    rt.write_all(&part[2..8])?;
-    println!(rt)
-}
 
-// The desk makes a block, writes the record into its room, and shows it in the slot in place of the old one. The value is its number.
-fn show(
-    rt: &impl Print,
-    table: &mut [u32; 33],
-    room: &mut [u8; 32],
-    old: u32,
-    bytes: &[u8; 8],
-) -> io::Result<u32> {
-    let made = reclaim::make(table, DESK).value();
-    put(room, made, bytes);
-    reclaim::swap(table, DESK, SLOT, Block(old), Block(made));
-    say(rt, "the desk shows block ", made)?;
-    Ok(made)
-}
+    // One line: who reads, the ZONE characters of the block's record, and its name, which is written from where it lies in the room.
+    fn tell(&self, who: &str, block: Block) -> io::Result<()> {
+        let stores = Stores {
+            table: &self.fixed,
+            room: self.room.as_flattened(),
+        };
+        let request = Request::Block(block);
+        let minutes = stores.minutes(request).map_err(|_| no_record())?;
+        let name = stores.record_part(request).get(2..).ok_or_else(no_record)?;
+        let mut zone = [0; 5];
+        zone_text::write_zone(minutes, &mut zone).map_err(|_| no_record())?;
+        print!(self.rt; "{who}")?;
+        self.rt.write_all(&zone)?;
+        print!(self.rt; " ")?;
+        self.rt.write_all(name)?;
+        println!(self.rt)
+    }
 
-// The logger looks and settles. The value is the block that it holds from now on.
-fn take(rt: &impl Print, table: &mut [u32; 33]) -> io::Result<u32> {
-    reclaim::look(table, LOGGER, SLOT);
-    let held = reclaim::settle(table, LOGGER).value();
-    say(rt, "the logger settles on block ", held)?;
-    Ok(held)
-}
+    // The place of a block's record in the room.
+    fn place(&mut self, block: Block) -> Option<&mut [u8; 8]> {
+        let before = usize::try_from(block.0.checked_sub(1)?).ok()?;
+        self.room.get_mut(before)
+    }
 
-// A task begins its operation, and ends it.
-fn begin(table: &mut [u32; 33], task: Task) {
-    reclaim::start(table, task);
-}
+    // The desk makes a block, writes the record into its room, and shows it in the slot in place of the old one.
+    fn show(&mut self, old: Block, record: [u8; 8]) -> io::Result<Block> {
+        let made = Block(done(reclaim::make(&mut self.table, DESK))?);
+        *self.place(made).ok_or_else(no_record)? = record;
+        if done(reclaim::swap(&mut self.table, DESK, SLOT, old, made))? != 1 {
+            return Err(io::Error::other("the slot holds another block"));
+        }
+        self.say("the desk shows block ", made.0)?;
+        Ok(made)
+    }
 
-fn finish(rt: &impl Print, table: &mut [u32; 33], task: Task) -> io::Result<()> {
-    reclaim::end(table, task);
-    say(rt, "an operation ends, of task ", task.0)
-}
+    // The logger looks and settles on the block that it holds from now on.
+    fn take(&mut self) -> io::Result<Block> {
+        done(reclaim::look(&mut self.table, LOGGER, SLOT))?;
+        let held = Block(done(reclaim::settle(&mut self.table, LOGGER))?);
+        self.say("the logger settles on block ", held.0)?;
+        Ok(held)
+    }
 
-// The desk retires a block that no slot names any more, and sweeps, which it may in any phase.
-fn retire(rt: &impl Print, table: &mut [u32; 33], block: u32) -> io::Result<()> {
-    let freed = reclaim::retire(table, DESK, Block(block)).value();
-    say(
-        rt,
-        "the desk retires its first block, blocks freed: ",
-        freed,
-    )
-}
+    // A task begins its operation, and ends it.
+    fn begin(&mut self, task: Task) -> io::Result<()> {
+        done(reclaim::start(&mut self.table, task))?;
+        Ok(())
+    }
 
-fn sweep(rt: &impl Print, table: &mut [u32; 33]) -> io::Result<()> {
-    let freed = reclaim::sweep(table, DESK).value();
-    say(rt, "the desk sweeps, blocks freed: ", freed)
+    fn finish(&mut self, task: Task) -> io::Result<()> {
+        done(reclaim::end(&mut self.table, task))?;
+        self.say("an operation ends, of task ", task.0)
+    }
+
+    // The desk retires a block that no slot names any more, and sweeps, which it may in any phase.
+    fn retire(&mut self, block: Block) -> io::Result<()> {
+        let freed = done(reclaim::retire(&mut self.table, DESK, block))?;
+        self.say("the desk retires its first block, blocks freed: ", freed)
+    }
+
+    fn sweep(&mut self) -> io::Result<()> {
+        let freed = done(reclaim::sweep(&mut self.table, DESK))?;
+        self.say("the desk sweeps, blocks freed: ", freed)
+    }
 }
 
 // The night, line by line.
-fn night(rt: &impl Print) -> io::Result<()> {
-    let fixed = zones::records::fixed_table();
-    let mut room = [0u8; 32];
-    let mut table = [0u32; 33];
-    reclaim::open(&mut table, 2, 4, 1, 2, 1);
-    begin(&mut table, DESK);
-    let first = show(rt, &mut table, &mut room, 0, &MINUS_210)?;
-    begin(&mut table, LOGGER);
-    let held = take(rt, &mut table)?;
-    tell(rt, "the logger reads ", &fixed, &room, held)?;
-    let next = show(rt, &mut table, &mut room, first, &PLUS_210)?;
-    retire(rt, &mut table, first)?;
-    tell(rt, "the desk reads ", &fixed, &room, next)?;
-    finish(rt, &mut table, DESK)?;
-    sweep(rt, &mut table)?;
-    tell(rt, "the slow logger still reads ", &fixed, &room, held)?;
-    finish(rt, &mut table, LOGGER)?;
-    sweep(rt, &mut table)?;
-    begin(&mut table, DESK);
-    let again = show(rt, &mut table, &mut room, next, &PLUS_210)?;
-    tell(
-        rt,
-        "its room, reused only now, reads ",
-        &fixed,
-        &room,
-        again,
-    )
+fn tell_night(rt: &impl Print) -> io::Result<()> {
+    let mut night = Night::open(rt)?;
+    night.begin(DESK)?;
+    let first = night.show(Block::NONE, MINUS_210)?;
+    night.begin(LOGGER)?;
+    let held = night.take()?;
+    night.tell("the logger reads ", held)?;
+    let next = night.show(first, PLUS_210)?;
+    night.retire(first)?;
+    night.tell("the desk reads ", next)?;
+    night.finish(DESK)?;
+    night.sweep()?;
+    night.tell("the slow logger still reads ", held)?;
+    night.finish(LOGGER)?;
+    night.sweep()?;
+    night.begin(DESK)?;
+    let again = night.show(next, PLUS_210)?;
+    night.tell("its room, reused only now, reads ", again)
 }
 
 fn main(rt: HostRuntime) -> io::Result<()> {
-    unless_left(night(&rt))
+    unless_left(tell_night(&rt))
 }

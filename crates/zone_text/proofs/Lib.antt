@@ -2,3 +2,4 @@ pub mod Signs
 pub mod Writing
 pub mod Reading
 pub mod RoundTrip
+pub mod OneAnswer

@@ -10,7 +10,7 @@ use lib.IntN.{ℤ, pos, negsuc, neg_ℤ, nat_abs}
 use lib.ListN.{length, get_or}
 use borrow.Author.Tests.{leb-true, le-leb, eqb-true, eqb-false, ne_eqb, not-true}
 use Rattle.table.proofs.Tests.{two, both, either, decide, cond_cases}
-use Rattle.zone_text.specs.declared.ZoneMinutes.{ZoneMinutes}
+use Rattle.zone_text.specs.Answered.{ZoneMinutes}
 use Rattle.zone_text.specs.Offsets.{in_range, sign_of, hours_of, rest_of}
 use Rattle.zone_text.specs.Zone.{characters, Written, written, zone_write, is_sign, is_digit, two_of, size_of, is_zone, minutes_of, zone_minutes, zone_of, zone_read}
 use Rattle.zone_text.proofs.Signs.{within, hours_size, rest_size, size_neg}

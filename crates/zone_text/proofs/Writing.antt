@@ -1,28 +1,19 @@
--- What a write leaves and answers in each of its cases. Assumes nothing.
+-- What a write leaves in five bytes. Assumes nothing.
 use Prim.Native.Nat.{ℕ, ◌+◌, ◌/◌, ◌%◌}
 use native.Mathlib.Omega.{arith}
 use mathlib.Core.Path.{◌≡◌, refl, ap}
-use mathlib.Core.Bool.{true, false}
+use mathlib.Core.Bool.{true}
 use mathlib.Core.List.{List, [], ◌∷◌}
 use lib.IntN.{ℤ}
-use lib.ListN.{length, get_or, set}
-use borrow.Author.Tests.{eq-eqb, ne_eqb}
+use lib.ListN.{length, get_or}
+use borrow.Author.Tests.{eq-eqb}
 use Rattle.zone_text.specs.Offsets.{in_range, sign_of, hours_of, rest_of}
 use Rattle.zone_text.specs.Zone.{characters, written, zone_write}
 
-module _ (z : ℤ) (s : List ℕ) where
-  pub out : in_range z ≡ false → written 30 s ≡ zone_write z s
+module _ (z : ℤ) (s : List ℕ) (h : in_range z ≡ true) where
+  pub five : length s ≡ 5 → {l : List ℕ} → l ≡ characters z → written 0 l ≡ zone_write z s
   unfolding zone_write
-  out h = simp h
-
-  module _ (h : in_range z ≡ true) where
-    pub not_five : (length s ≡ 5 → ⊥) → written 33 s ≡ zone_write z s
-    unfolding zone_write
-    not_five n = simp (h, ne_eqb (length s) 5 n)
-
-    pub five : length s ≡ 5 → {l : List ℕ} → l ≡ characters z → written 0 l ≡ zone_write z s
-    unfolding zone_write
-    five n e = simp (h, eq-eqb (length s) 5 n) (ap (written 0) e)
+  five n e = simp (h, eq-eqb (length s) 5 n) (ap (written 0) e)
 
 -- the five characters, from the sign, the hours and the minutes
 pub spelled : (z : ℤ) {h m a b c d e : ℕ} → h ≡ hours_of z → m ≡ rest_of z → a ≡ sign_of z → b ≡ 48 + h / 10 → c ≡ 48 + h % 10 → d ≡ 48 + m / 10 → e ≡ 48 + m % 10
@@ -39,7 +30,3 @@ of_five (_ ∷ _ ∷ []) h = absurd (omega arith)
 of_five (_ ∷ _ ∷ _ ∷ []) h = absurd (omega arith)
 of_five (_ ∷ _ ∷ _ ∷ _ ∷ []) h = absurd (omega arith)
 of_five (_ ∷ _ ∷ _ ∷ _ ∷ _ ∷ _ ∷ _) h = absurd (omega arith)
-
--- five stores fill it
-pub stored : (s : List ℕ) (a b c d e : ℕ) → length s ≡ 5 → set (set (set (set (set s 0 a) 1 b) 2 c) 3 d) 4 e ≡ a ∷ b ∷ c ∷ d ∷ e ∷ []
-stored s a b c d e h = ap (λ (l : List ℕ). set (set (set (set (set l 0 a) 1 b) 2 c) 3 d) 4 e) (of_five s h)

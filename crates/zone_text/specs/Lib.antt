@@ -1,2 +1,4 @@
 pub mod Offsets
+pub mod Answered
 pub mod Zone
+pub mod Said

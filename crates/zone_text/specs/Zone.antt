@@ -2,7 +2,7 @@
 -- nothing.
 use Rattle.std.specs.Prelude.{ℕ, ◌+◌, ◌*◌, ◌-◌, ◌/◌, ◌%◌, Bool, cond, not, ◌&&◌, ◌||◌, List, [], ◌∷◌, nat_le, ◌==◌, ℤ, pos, neg_ℤ, length, get_or}
 use Rattle.zone_text.specs.Offsets.{in_range, sign_of, hours_of, rest_of}
-use Rattle.zone_text.specs.declared.ZoneMinutes.{ZoneMinutes}
+use Rattle.zone_text.specs.Answered.{ZoneMinutes}
 
 -- a sign, two digits of hours and two of minutes: −210 is -0330, −30 is -0030 and 0 is +0000
 unfoldable pub characters : ℤ → List ℕ

@@ -1,206 +1,149 @@
 // The five characters of the Fortran ZONE argument, a sign, two digits of hours and two of minutes: written from an offset, and read back.
 #![tactic(auto)]
 
-ghost use Rattle.std.specs.Prelude.{◌≡◌, [], ◌∷◌, true, cond, ◌≤◌, ◌<◌, ◌+◌, ◌-◌, pos, neg_ℤ, nat_abs, length};
-ghost use Rattle.zone_text.specs.Offsets.{in_range, sign_of, hours_of, rest_of};
-ghost use Rattle.zone_text.specs.Zone.{is_sign, is_digit, two_of, size_of, is_zone, zone_of, written, zone_write, zone_read};
+ghost use Rattle.std.specs.Prelude.{◌≡◌, [], ◌∷◌, true, ◌*◌, ◌/◌, ◌%◌, ◌<◌, ◌+◌, pos, slice_index, if◌then◌else◌};
+ghost use Rattle.std.specs.List.{list_all};
+ghost use Rattle.zone_text.specs.Offsets.{in_range, sign_of};
+ghost use Rattle.zone_text.specs.Zone.{characters, is_sign, is_digit, two_of, size_of, is_zone, minutes_of, written, zone_write, zone_read};
+ghost use Rattle.zone_text.specs.Said.{number_of, kind_said, said};
 
-// What reading answers: kind 0 and the minutes, or a refusal's kind and 0 minutes.
-#[repr(C)]
-#[derive(Clone, Copy)]
-pub struct ZoneMinutes {
-    pub kind: u32,
-    pub minutes: i32,
+// Why a request about an offset, a record or such characters is refused.
+#[derive(Clone, Copy, PartialEq, Eq, Debug)]
+pub enum ZoneError {
+    // The offset isn't within −900 to +900.
+    OutOfRange = 30,
+    // The hour is outside the table, the block is 0, or the store is too short.
+    NoRecord = 31,
+    // No five characters, no sign and four digits, minutes above 59, or -0000.
+    NotAZone = 32,
+    // The buffer isn't five bytes long.
+    NotFiveBytes = 33,
 }
 
-// The kinds of the refusals.
-pub const OUT_OF_RANGE: u32 = 30;
+// The refusal's number, as C has it.
+impl From<ZoneError> for u32 {
+    ghost from_gives = { λ error kind. kind ≡ number_of error };
 
-const NOT_A_ZONE: u32 = 32;
-
-const NOT_FIVE_BYTES: u32 = 33;
-
-const PLUS: u8 = 43;
-
-const MINUS: u8 = 45;
-
-const ZERO: u8 = 48;
+    fn from(error: ZoneError) -> u32 {
+        error as u32
+    }
+}
 
 // Offsets run from −900 to +900 minutes.
 pub fn in_range(minutes: i32) -> bool
     ensures { result ≡ in_range minutes }
 {
-    (-900 <= minutes) & (minutes <= 900)
+    (-900..=900).contains(&minutes)
 }
 
+// An offset, if it is in range.
+pub fn check_range(minutes: i32) -> Result<i32, ZoneError>
+    ensures { result ≡ (if in_range minutes then Ok minutes else Err ZoneError.OutOfRange) }
+{
+    if in_range(minutes) {
+        Ok(minutes)
+    } else {
+        Err(ZoneError::OutOfRange)
+    }
+}
+
+// The sign's character: + for 0.
 fn sign(minutes: i32) -> u8
     ensures { result ≡ sign_of minutes }
 {
-    if minutes < 0 { MINUS } else { PLUS }
+    if minutes < 0 { b'-' } else { b'+' }
 }
 
-// A number without its sign.
-fn size(number: i32) -> u32
-    requires { nat_abs number ≤ 900 }
-    ensures { result ≡ nat_abs number }
+// The two digits of a number below 100.
+fn digits(number: u32) -> [u8; 2]
+    requires { number < 100 }
+    ensures { result ≡ (48 + number / 10) ∷ (48 + number % 10) ∷ [] }
 {
-    if number < 0 {
-        -number as u32
-    } else {
-        number as u32
-    }
+    let number = u8::try_from(number).unwrap();
+    [b'0' + number / 10, b'0' + number % 10]
 }
 
-// The whole hours of an offset, rounded toward zero, without its sign.
-fn hours(minutes: i32) -> u32
+// The five characters of an offset, whose hours are rounded toward zero.
+#[tactic(auto, unfolding(crate::specs::Zone::characters))]
+fn characters(minutes: i32) -> [u8; 5]
     requires { in_range minutes ≡ true }
-    ensures { (result ≡ hours_of minutes) × (result < 60) }
+    ensures { result ≡ characters minutes }
 {
-    size(minutes / 60)
+    let hours = digits((minutes / 60).unsigned_abs());
+    let rest = digits((minutes % 60).unsigned_abs());
+    [sign(minutes), hours[0], hours[1], rest[0], rest[1]]
 }
 
-// The minutes beside the whole hours, without the offset's sign.
-fn rest(minutes: i32) -> u32
-    requires { in_range minutes ≡ true }
-    ensures { (result ≡ rest_of minutes) × (result < 60) }
+// Writes the five characters of an offset. A refusal, out of range before no five bytes, writes nothing.
+#[tactic(auto, unfolding(crate::specs::Zone::zone_write))]
+pub fn write_zone(minutes: i32, buffer: &mut [u8]) -> Result<(), ZoneError>
+    ensures { written (kind_said result) buffer.new ≡ zone_write minutes buffer.old }
 {
-    size(minutes % 60)
-}
-
-fn digit(value: u32) -> u8
-    requires { value < 10 }
-    ensures { result ≡ 48 + value }
-{
-    ZERO + value as u8
-}
-
-fn put_five(buffer: &mut [u8], a: u8, b: u8, c: u8, d: u8, e: u8)
-    requires { length buffer.old ≡ 5 }
-    ensures { buffer.new ≡ a ∷ b ∷ c ∷ d ∷ e ∷ [] }
-{
-    buffer[0] = a;
-    buffer[1] = b;
-    buffer[2] = c;
-    buffer[3] = d;
-    buffer[4] = e;
-}
-
-// Writes the five characters of an offset. A refusal, 30 before 33, writes nothing.
-pub fn write_zone(minutes: i32, buffer: &mut [u8]) -> u32
-    ensures { written result buffer.new ≡ zone_write minutes buffer.old }
-{
-    if !in_range(minutes) {
-        return OUT_OF_RANGE;
-    }
+    let minutes = check_range(minutes)?;
     if buffer.len() != 5 {
-        return NOT_FIVE_BYTES;
+        return Err(ZoneError::NotFiveBytes);
     }
-    let h = hours(minutes);
-    let m = rest(minutes);
-    put_five(
-        buffer,
-        sign(minutes),
-        digit(h / 10),
-        digit(h % 10),
-        digit(m / 10),
-        digit(m % 10),
-    );
-    0
-}
-
-fn is_sign(character: u8) -> bool
-    ensures { result ≡ is_sign character }
-{
-    (character == PLUS) | (character == MINUS)
-}
-
-fn is_digit(character: u8) -> bool
-    ensures { result ≡ is_digit character }
-{
-    (ZERO <= character) & (character <= 57)
-}
-
-// How far a character lies above 0's; a digit's value.
-fn value(character: u8) -> u32
-    ensures { (result ≡ character - 48) × (result < 256) }
-{
-    if character < ZERO {
-        0
-    } else {
-        (character - ZERO) as u32
-    }
+    buffer.copy_from_slice(&characters(minutes));
+    Ok(())
 }
 
 // The number of two digits.
-fn two(tens: u8, ones: u8) -> u32
-    ensures { (result ≡ two_of tens ones) × (result < 3000) }
+fn two(tens: u8, ones: u8) -> i32
+    ensures number { result ≡ pos (two_of tens ones) }
+    ensures bound { two_of tens ones < 3000 }
 {
-    value(tens) * 10 + value(ones)
+    i32::from(tens.saturating_sub(b'0')) * 10 + i32::from(ones.saturating_sub(b'0'))
 }
 
 // The minutes of two digits of hours and two of minutes.
-fn size_of(b: u8, c: u8, d: u8, e: u8) -> u32
-    ensures { (result ≡ size_of b c d e) × (result < 200000) }
+fn size_of(five: [u8; 5]) -> i32
+    ensures { result ≡ pos (size_of (slice_index five 1) (slice_index five 2) (slice_index five 3) (slice_index five 4)) }
 {
-    two(b, c) * 60 + two(d, e)
+    two(five[1], five[2]) * 60 + two(five[3], five[4])
+}
+
+// The two characters that a sign may be.
+fn is_sign(character: u8) -> bool
+    ensures { result ≡ is_sign character }
+{
+    matches!(character, b'+' | b'-')
+}
+
+// Apart from `is_zone`, in whose chain of `&&` the proof of an `all` doesn't close.
+fn are_digits(digits: [u8; 4]) -> bool
+    ensures { result ≡ list_all is_digit digits }
+{
+    digits.iter().all(u8::is_ascii_digit)
 }
 
 // A sign and four digits, minutes up to 59, and not -0000.
-fn is_zone(a: u8, b: u8, c: u8, d: u8, e: u8) -> bool
-    ensures { result ≡ is_zone a b c d e }
+#[tactic(auto, unfolding(crate::specs::Zone::is_zone))]
+fn is_zone(five: [u8; 5]) -> bool
+    ensures { result ≡ is_zone (slice_index five 0) (slice_index five 1) (slice_index five 2) (slice_index five 3) (slice_index five 4) }
 {
-    is_sign(a)
-        & is_digit(b)
-        & is_digit(c)
-        & is_digit(d)
-        & is_digit(e)
-        & (two(d, e) <= 59)
-        & !((a == MINUS) & (size_of(b, c, d, e) == 0))
+    let [sign, b, c, d, e] = five;
+    is_sign(sign)
+        && are_digits([b, c, d, e])
+        && two(d, e) <= 59
+        && !(sign == b'-' && size_of(five) == 0)
 }
 
-fn with_sign(negative: bool, size: u32) -> i32
-    requires { size < 200000 }
-    ensures { result ≡ cond negative (neg_ℤ (pos size)) (pos size) }
+// The minutes that five characters say.
+fn minutes_of(five: [u8; 5]) -> i32
+    ensures { result ≡ minutes_of (slice_index five 0) (slice_index five 1) (slice_index five 2) (slice_index five 3) (slice_index five 4) }
 {
-    if negative {
-        -(size as i32)
-    } else {
-        size as i32
-    }
+    let size = size_of(five);
+    if five[0] == b'-' { -size } else { size }
 }
 
-// A refusal gives 0 minutes.
-pub fn refused(kind: u32) -> ZoneMinutes
-    ensures { result ≡ record { kind = kind; minutes = pos 0 } }
+// Reads the minutes of five characters. A refusal: no zone before out of range.
+#[tactic(auto, unfolding(crate::specs::Zone::zone_read, crate::specs::Zone::zone_of))]
+pub fn read_zone(characters: &[u8]) -> Result<i32, ZoneError>
+    ensures { said result ≡ zone_read characters.now }
 {
-    ZoneMinutes { kind, minutes: 0 }
-}
-
-fn read_five(a: u8, b: u8, c: u8, d: u8, e: u8) -> ZoneMinutes
-    ensures { result ≡ zone_of a b c d e }
-{
-    if !is_zone(a, b, c, d, e) {
-        return refused(NOT_A_ZONE);
+    let five = <[u8; 5]>::try_from(characters).map_err(|_| ZoneError::NotAZone)?;
+    if !is_zone(five) {
+        return Err(ZoneError::NotAZone);
     }
-    let minutes = with_sign(a == MINUS, size_of(b, c, d, e));
-    if !in_range(minutes) {
-        return refused(OUT_OF_RANGE);
-    }
-    ZoneMinutes { kind: 0, minutes }
-}
-
-// Reads the minutes of five characters. A refusal, 32 before 30, gives 0 minutes.
-pub fn read_zone(characters: &[u8]) -> ZoneMinutes
-    ensures { result ≡ zone_read characters.now }
-{
-    if characters.len() != 5 {
-        return refused(NOT_A_ZONE);
-    }
-    read_five(
-        characters[0],
-        characters[1],
-        characters[2],
-        characters[3],
-        characters[4],
-    )
+    check_range(minutes_of(five))
 }

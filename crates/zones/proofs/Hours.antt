@@ -10,7 +10,7 @@ use lib.ListN.{length, take, drop}
 use lib.Seq.{take_at, drop-append-add}
 use borrow.Author.Tests.{leb-true, le-leb, lt-ltb, le-ltb}
 use Rattle.table.proofs.Tests.{two, both}
-use Rattle.zone_text.specs.declared.ZoneMinutes.{ZoneMinutes}
+use Rattle.zone_text.specs.Answered.{ZoneMinutes}
 use Rattle.zone_text.specs.Offsets.{in_range}
 use Rattle.zone_text.specs.Zone.{characters, zone_minutes}
 use Rattle.zone_text.proofs.Signs.{within}

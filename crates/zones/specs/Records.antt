@@ -1,7 +1,7 @@
 -- Zone records (02, request i): eight bytes, the offset and then a name; the fixed table of the whole hours; and what eight bytes say. Assumes
 -- nothing.
 use Rattle.std.specs.Prelude.{ℕ, zero, suc, ◌+◌, ◌*◌, ◌-◌, ◌/◌, ◌%◌, cond, List, [], ◌∷◌, ◌++◌, nat_lt, ◌==◌, ℤ, pos, negsuc, ◌-ℤ◌, ◌*ℤ◌, length, get_or, take}
-use Rattle.zone_text.specs.declared.ZoneMinutes.{ZoneMinutes}
+use Rattle.zone_text.specs.Answered.{ZoneMinutes}
 use Rattle.zone_text.specs.Offsets.{in_range}
 use Rattle.zone_text.specs.Zone.{characters, zone_minutes}
 

@@ -3,7 +3,7 @@
 use Rattle.std.specs.Prelude.{ℕ, ◌+◌, ◌*◌, ◌-◌, Bool, cond, ◌&&◌, List, [], nat_le, ◌==◌, ℤ, pos, negsuc, nat_abs, ◌+ℤ◌, length, take, drop}
 use Rattle.std.specs.Int.Signed.{le_z}
 use Rattle.std.specs.Borrow.{Bor}
-use Rattle.zone_text.specs.declared.ZoneMinutes.{ZoneMinutes}
+use Rattle.zone_text.specs.Answered.{ZoneMinutes}
 use Rattle.zones.specs.Records.{minutes_of}
 use Rattle.zones.specs.declared.requests.Request.{Request}
 use Rattle.zones.specs.declared.requests.Request.TheVariants.{Hour, Block}

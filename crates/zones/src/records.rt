@@ -1,27 +1,43 @@
 // Zone records: eight bytes each, the offset in minutes, signed, two bytes most significant first, then six bytes of name; and the fixed
 // table of the whole hours.
-ghost use Rattle.std.specs.Prelude.{◌≡◌, true};
-ghost use Rattle.zones.specs.Records.{signed, fixed_table, minutes_of};
+ghost use Rattle.std.specs.Prelude.{◌≡◌, ◌↔◌, IsTrue};
+ghost use Rattle.zone_text.specs.Said.{said};
+ghost use Rattle.zones.specs.Records.{offset_of, fixed_table, minutes_of};
 
-use zone_text::{OUT_OF_RANGE, ZoneMinutes, in_range, refused};
-
-// There is no such record: the hour is outside the table, the block is 0, or the store is too short.
-const NO_RECORD: u32 = 31;
+use zone_text::{ZoneError, check_range};
 
 // The whole hours −15 to +15 in order: the offset's two bytes, then UTC, a sign and two digits.
-const TABLE: [u8; 248] = [
-    252, 124, 85, 84, 67, 45, 49, 53, 252, 184, 85, 84, 67, 45, 49, 52, 252, 244, 85, 84, 67, 45,
-    49, 51, 253, 48, 85, 84, 67, 45, 49, 50, 253, 108, 85, 84, 67, 45, 49, 49, 253, 168, 85, 84,
-    67, 45, 49, 48, 253, 228, 85, 84, 67, 45, 48, 57, 254, 32, 85, 84, 67, 45, 48, 56, 254, 92, 85,
-    84, 67, 45, 48, 55, 254, 152, 85, 84, 67, 45, 48, 54, 254, 212, 85, 84, 67, 45, 48, 53, 255,
-    16, 85, 84, 67, 45, 48, 52, 255, 76, 85, 84, 67, 45, 48, 51, 255, 136, 85, 84, 67, 45, 48, 50,
-    255, 196, 85, 84, 67, 45, 48, 49, 0, 0, 85, 84, 67, 43, 48, 48, 0, 60, 85, 84, 67, 43, 48, 49,
-    0, 120, 85, 84, 67, 43, 48, 50, 0, 180, 85, 84, 67, 43, 48, 51, 0, 240, 85, 84, 67, 43, 48, 52,
-    1, 44, 85, 84, 67, 43, 48, 53, 1, 104, 85, 84, 67, 43, 48, 54, 1, 164, 85, 84, 67, 43, 48, 55,
-    1, 224, 85, 84, 67, 43, 48, 56, 2, 28, 85, 84, 67, 43, 48, 57, 2, 88, 85, 84, 67, 43, 49, 48,
-    2, 148, 85, 84, 67, 43, 49, 49, 2, 208, 85, 84, 67, 43, 49, 50, 3, 12, 85, 84, 67, 43, 49, 51,
-    3, 72, 85, 84, 67, 43, 49, 52, 3, 132, 85, 84, 67, 43, 49, 53,
-];
+const TABLE: [u8; 248] = *b"\xfc\x7cUTC-15\
+    \xfc\xb8UTC-14\
+    \xfc\xf4UTC-13\
+    \xfd\x30UTC-12\
+    \xfd\x6cUTC-11\
+    \xfd\xa8UTC-10\
+    \xfd\xe4UTC-09\
+    \xfe\x20UTC-08\
+    \xfe\x5cUTC-07\
+    \xfe\x98UTC-06\
+    \xfe\xd4UTC-05\
+    \xff\x10UTC-04\
+    \xff\x4cUTC-03\
+    \xff\x88UTC-02\
+    \xff\xc4UTC-01\
+    \x00\x00UTC+00\
+    \x00\x3cUTC+01\
+    \x00\x78UTC+02\
+    \x00\xb4UTC+03\
+    \x00\xf0UTC+04\
+    \x01\x2cUTC+05\
+    \x01\x68UTC+06\
+    \x01\xa4UTC+07\
+    \x01\xe0UTC+08\
+    \x02\x1cUTC+09\
+    \x02\x58UTC+10\
+    \x02\x94UTC+11\
+    \x02\xd0UTC+12\
+    \x03\x0cUTC+13\
+    \x03\x48UTC+14\
+    \x03\x84UTC+15";
 
 // The fixed table, for a caller to lend.
 pub fn fixed_table() -> [u8; 248]
@@ -32,34 +48,24 @@ pub fn fixed_table() -> [u8; 248]
 
 // Whether a lent store is the fixed table, byte for byte.
 pub fn is_fixed_table(store: &[u8]) -> bool
-    ensures { (result ≡ true → store.now ≡ fixed_table) × (store.now ≡ fixed_table → result ≡ true) }
+    ensures { IsTrue result ↔ (store.now ≡ fixed_table) }
 {
-    let table = fixed_table();
-    check::same(store, &table)
+    store == fixed_table().as_slice()
 }
 
-// Two bytes, most significant first, as a signed number.
-fn signed(high: u8, low: u8) -> i32
-    ensures { result ≡ signed high low }
+// The offset of a record, in minutes.
+#[tactic(auto, unfolding(crate::specs::Records::signed))]
+fn offset_of(eight: [u8; 8]) -> i32
+    ensures { result ≡ offset_of eight }
 {
-    let n = (high as u32) * 256 + (low as u32);
-    if n < 32768 {
-        n as i32
-    } else {
-        n as i32 - 65536
-    }
+    i32::from(i16::from_be_bytes([eight[0], eight[1]]))
 }
 
-// What a part says: 31 where it isn't eight bytes, then 30 where its offset is out of range, else 0 and the offset.
-pub fn minutes_of(part: &[u8]) -> ZoneMinutes
-    ensures { result ≡ minutes_of part.now }
+// What a part says: no record where it isn't eight bytes, then out of range, else the offset.
+#[tactic(auto, unfolding(crate::specs::Records::minutes_of))]
+pub fn minutes_of(part: &[u8]) -> Result<i32, ZoneError>
+    ensures { said result ≡ minutes_of part.now }
 {
-    if part.len() != 8 {
-        return refused(NO_RECORD);
-    }
-    let minutes = signed(part[0], part[1]);
-    if !in_range(minutes) {
-        return refused(OUT_OF_RANGE);
-    }
-    ZoneMinutes { kind: 0, minutes }
+    let eight = <[u8; 8]>::try_from(part).map_err(|_| ZoneError::NoRecord)?;
+    check_range(offset_of(eight))
 }

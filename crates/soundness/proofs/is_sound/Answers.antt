@@ -1,15 +1,15 @@
 -- `soundness::is_sound`: another length, or what the four tests say. Assumes nothing.
-use Rattle.std.proofs.Common.{rules, ◌≡◌, true, sym, ◌∙◌}
+use Rattle.std.proofs.Common.{◌≡◌, true, sym, ◌∙◌}
 use Rattle.table.specs.Soundness.{sound_state}
 use Rattle.table.specs.Words.{is_exact, sound}
 use Rattle.soundness.proofs.is_sound.Goals as goal
 
-pub returns-then-not-is_exact : goal.returns-then-not-is_exact
-unfolding sound
-returns-then-not-is_exact c = rw (← c.is_exact.ensures, c.if-not-is_exact.true)
-
-pub returns : goal.returns
+pub returns-then-is_exact : goal.returns-then-is_exact
 unfolding sound sound_state
-returns c =
-    let exact : is_exact c.args.table.now ≡ true = sym c.is_exact.ensures ∙ search rules in
+returns-then-is_exact c =
+    let exact : is_exact c.args.table.now ≡ true = sym c.is_exact.ensures ∙ c.if-is_exact.true in
     rw (exact, c.numbers_sound.ensures, c.tasks_sound.ensures, c.blocks_sound.ensures, c.slots_sound.ensures)
+
+pub returns-else-is_exact : goal.returns-else-is_exact
+unfolding sound
+returns-else-is_exact c = rw (← c.is_exact.ensures, c.if-is_exact.false)

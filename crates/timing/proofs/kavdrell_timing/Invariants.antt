@@ -1,10 +1,9 @@
--- `timing::kavdrell_timing`: the buffer is ready, and every field is at least three bytes, so that fewer are left after each. Assumes nothing.
-use Rattle.std.proofs.Common.{◌≤◌, ◌-◌, length}
-use Rattle.runner.specs.Running.{Ready, held}
+-- `timing::kavdrell_timing`: every field is at least three bytes, so that the sum stays below the place reached. Assumes nothing.
+use Rattle.std.proofs.Common.{◌≡◌, ◌≤◌, length}
 use Rattle.timing.proofs.kavdrell_timing.Given as goal
 
-abbrev pub invariant-loop-tag : goal.invariant-loop-tag
-invariant-loop-tag l = Ready (held l.buffer l.used) × (l.at ≤ length l.schedule) × (l.sum ≤ l.at)
-
-abbrev pub decreases-loop-tag : goal.decreases-loop-tag
-decreases-loop-tag l = length l.schedule - l.at
+abbrev pub invariant-loop-field : goal.invariant-loop-field
+invariant-loop-field l =
+    (goal.iterator-loop-field).can_next l.field-iterator ×
+    (goal.iterator-loop-field).is_finite l.field-iterator ×
+    (l.sum ≤ l.field-iterator.place) × (l.field-iterator.place ≤ length l.schedule) × (l.field-iterator.schedule.now ≡ l.schedule)

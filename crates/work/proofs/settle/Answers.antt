@@ -1,18 +1,21 @@
 -- `work::settle`: refused on entering, the candidate handed out, or look again. Assumes nothing.
-use Rattle.std.proofs.Common.{ℕ, arith, refl, ap, ◌∙◌}
+use Rattle.std.proofs.Common.{ℕ, rules, sym, ap, ◌∙◌}
+use Rattle.table.specs.State.{is_looking}
 use Rattle.rules.specs.OnTable.{result_of}
-use Rattle.work.specs.declared.entering.Asked.{Asked}
 use Rattle.work.proofs.Entries.{out}
 use Rattle.work.proofs.Cases.{settle_enters, settle_done_lem, settle_again}
 use Rattle.work.proofs.settle.Goals as goal
 
-pub returns-in-Out : goal.returns-in-Out
-returns-in-Out c = out c.args.table.now c.args.task.0 Asked.Looking _ c.in-Out.ensures refl _ (settle_enters _ _)
+pub returns-in_err-r : goal.returns-in_err-r
+returns-in_err-r c = out _ _ is_looking (search rules) (c.in_err-r.ensures.entered is_looking (λ r b q. search rules)) _ (settle_enters _ _)
 
-pub returns-then-r-now : goal.returns-then-r-now
-returns-then-r-now c =
-    ap (λ (v : ℕ). result_of 0 v c.put_task.new.table) c.candidate-candidate.ensures
-    ∙ settle_done_lem _ _ _ c.in-At.ensures _ _ _ c.epoch-now.ensures c.settled.ensures c.put_task.ensures (omega arith)
+pub returns-then-eq : goal.returns-then-eq
+returns-then-eq c =
+    let inside = c.in_ok-r.ensures.entered is_looking (λ r b q. search rules) in
+    ap (λ (v : ℕ). result_of 0 v c.put_task.new.table) c.candidate.ensures
+    ∙ settle_done_lem _ _ _ inside _ _ _ c.epoch-now.ensures c.settled.ensures c.put_task.ensures (sym c.eq.ensures ∙ c.if-eq.true)
 
-pub returns-else-r-now : goal.returns-else-r-now
-returns-else-r-now c = settle_again _ _ _ c.in-At.ensures _ _ _ c.epoch-now.ensures c.settled.ensures c.put_task.ensures (λ z. omega arith)
+pub returns : goal.returns
+returns c =
+    let inside = c.in_ok-r.ensures.entered is_looking (λ r b q. search rules) in
+    settle_again _ _ _ inside _ _ _ c.epoch-now.ensures c.settled.ensures c.put_task.ensures (sym c.eq.ensures ∙ c.if-eq.false)

@@ -3,8 +3,8 @@ use Rattle.std.proofs.Common.{arith}
 use Rattle.work.proofs.Cases.{tally_refused, tally_done_lem}
 use Rattle.work.proofs.tally.Goals as goal
 
-pub returns-then-state-gt3 : goal.returns-then-state-gt3
-returns-then-state-gt3 c = tally_refused _ _ c.requires c.if-state-gt3.true
+pub returns-then-state : goal.returns-then-state
+returns-then-state c = tally_refused _ _ c.requires c.if-state.true
 
 pub returns : goal.returns
-returns c = tally_done_lem _ _ _ c.requires (omega arith) c.count.ensures
+returns c = tally_done_lem _ _ _ c.requires (omega arith) c.in_state.ensures

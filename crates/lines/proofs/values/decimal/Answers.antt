@@ -1,12 +1,12 @@
--- `lines::values::decimal`: no digits say 0, and each digit one more. Assumes nothing.
-use Rattle.std.proofs.Common.{arith}
+-- `lines::values::decimal`: the fold over the digits, each step up to the limit. Assumes nothing.
+use Rattle.std.proofs.Common.{◌≡◌, ◌∙◌, refl, rules}
+use Rattle.std.specs.Prelude.{fold}
 use Rattle.lines.specs.Values.{decimal}
-use Rattle.lines.proofs.Digits.{decimal_on}
+use Rattle.lines.proofs.Digits.{capped, up_to}
 use Rattle.lines.proofs.values.decimal.Goals as goal
 
-pub loop-i-init : goal.loop-i-init
+pub returns : goal.returns
 unfolding decimal
-loop-i-init c = (omega arith, omega arith)
-
-pub loop-i-preserved : goal.loop-i-preserved
-loop-i-preserved c = (omega arith, omega (arith, decimal_on c.args.word.now c.loop-i.i c.loop-i-test.true))
+returns c =
+    let e : c.fold.result ≡ fold capped 0 c.args.word.now = search rules in
+    e ∙ up_to c.args.word.now 0 0 refl

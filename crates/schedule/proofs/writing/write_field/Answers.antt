@@ -1,31 +1,31 @@
 -- `schedule::writing::write_field`: a refusal, or the field in its place. Assumes nothing.
-use Rattle.std.proofs.Common.{ℕ, ◌≡◌, ◌+◌, ◌*◌, ◌≤◌, List, length, ap, sym, arith, ◌∙◌}
-use Rattle.schedule.specs.Fields.{length_of, left}
-use Rattle.schedule.specs.Writing.{size_of, write_kind}
-use Rattle.schedule.proofs.Writes.{kind, inside, refused, done}
+use Rattle.std.proofs.Common.{arith, ap, refl, sym, ◌∙◌}
+use Rattle.std.proofs.lemmas.Result.{err_from_is_err_and}
+use Rattle.schedule.specs.Writing.{field_of}
+use Rattle.schedule.proofs.Errors.{its_error}
+use Rattle.schedule.proofs.Refusals.{unknown, other, no_room, none}
+use Rattle.schedule.proofs.TagBytes.{in_some, in_none}
+use Rattle.schedule.proofs.Writes.{refused, done}
 use Rattle.schedule.proofs.writing.write_field.Goals as goal
 
--- the kind that the checks give
-found : (b : List ℕ) (at tag : ℕ) (ns : List ℕ) {room k : ℕ} → room ≡ left b at → k ≡ write_kind tag (length ns) room → k ≡ kind b at tag ns
-found b at tag ns r e = e ∙ ap (write_kind _ _) r
+pub returns-in_err-tag : goal.returns-in_err-tag
+returns-in_err-tag c =
+    let p = err_from_is_err_and c.from_residual.result c.from_residual.ensures.1 in
+    rw (p.1, p.2, its_error c.of.result c.in_err-tag.ensures.value)
+    (refused _ _ _ _ (unknown _ _ _ (in_none _ c.in_err-tag.ensures.ok_part c.of.ensures)) (λ e. omega arith))
 
--- where it is 0
-within : (b : List ℕ) (at tag : ℕ) (ns : List ℕ) {room k : ℕ} → room ≡ left b at → k ≡ write_kind tag (length ns) room → k ≡ 0
-    → (at + size_of tag ≤ length b) × (4 * length ns ≡ length_of tag)
-within b at tag ns r e z = inside b at tag ns (sym (found b at tag ns r e) ∙ z)
+pub returns-then-numbers-count : goal.returns-then-numbers-count
+returns-then-numbers-count c =
+    let t = in_some _ c.in_ok-tag.ensures.ok_part c.of.ensures in
+    refused _ _ _ _ (other _ _ _ t.known (λ e. omega (arith, t.same))) (λ e. omega arith)
 
-pub returns-then-kind-ne0 : goal.returns-then-kind-ne0
-returns-then-kind-ne0 c = refused _ _ _ _ (found _ _ _ c.args.numbers.now c.room.ensures c.write_kind-kind.ensures) c.if-kind-ne0.true
-
-pub put_field-requires : goal.put_field-requires
-put_field-requires c = within c.args.buffer.now _ _ c.args.numbers.now c.room.ensures c.write_kind-kind.ensures c.if-kind-ne0.false
-
-pub overflow_add-value : goal.overflow_add-value
-overflow_add-value c = omega (arith, (within c.args.buffer.now _ _ c.args.numbers.now c.room.ensures c.write_kind-kind.ensures c.if-kind-ne0.false).0)
-
-pub overflow_add-value-2 : goal.overflow_add-value-2
-overflow_add-value-2 c = omega (arith, (within c.args.buffer.now _ _ c.args.numbers.now c.room.ensures c.write_kind-kind.ensures c.if-kind-ne0.false).0)
+pub returns-then-saturating_sub-size : goal.returns-then-saturating_sub-size
+returns-then-saturating_sub-size c =
+    let t = in_some _ c.in_ok-tag.ensures.ok_part c.of.ensures in
+    refused _ _ _ _ (no_room _ _ _ t.known (omega (arith, t.same)) (omega (arith, t.same))) (λ e. omega arith)
 
 pub returns : goal.returns
 returns c =
-    done _ _ _ _ (sym (found _ _ _ c.args.numbers.now c.room.ensures c.write_kind-kind.ensures) ∙ c.if-kind-ne0.false) (omega arith) c.put_field.ensures
+    let t = in_some _ c.in_ok-tag.ensures.ok_part c.of.ensures in
+    done _ _ _ _ (sym (none _ _ _ t.known (omega (arith, t.same)) (omega (arith, t.same)))) refl (c.put_field.ensures ∙ ap (λ k. field_of k c.args.numbers.now) t.is)
+    (omega (arith, t.same)) (omega (arith, t.same))

@@ -14,4 +14,4 @@ pub returns : goal.returns
 returns c =
     c.put_idle.ensures
     ∙ ap (λ (u : State). words (with_tasks u (map (with_interval idle_mark idle_mark) u.tasks))) (says _ _ c.put_blank.ensures).1
-    ∙ ap words (opened_is c.args.t c.args.n c.args.p c.args.f c.args.e)
+    ∙ ap words (opened_is _ _ _ _ _)

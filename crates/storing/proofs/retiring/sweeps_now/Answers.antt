@@ -5,4 +5,4 @@ use Rattle.storing.proofs.retiring.sweeps_now.Goals as goal
 
 pub returns : goal.returns
 unfolding retired_count
-returns c = ap₂ divisible c.count.ensures c.per_sweep.ensures
+returns c = ap₂ divisible c.retired_by.ensures c.per_sweep.ensures

@@ -7,10 +7,10 @@ use Rattle.table.proofs.words.task_at.Goals as goal
 pub task_words-w-requires : goal.task_words-w-requires
 task_words-w-requires c = (exact _ c.requires.0, c.requires.1)
 
-pub of-phase-requires : goal.of-phase-requires
-of-phase-requires c =
+pub of-requires : goal.of-requires
+of-requires c =
     subst (λ (r : TaskRow). (r.phase ≤ 2) × (r.phase < 2 → r.candidate ≡ 0)) (sym c.task_words-w.ensures)
     (spoken ((facts _ c.requires.0).tasks _))
 
 pub returns : goal.returns
-returns c = rw (c.of-phase.ensures.0, c.of-phase.ensures.1) c.task_words-w.ensures
+returns c = rw (c.of.ensures.0, c.of.ensures.1) c.task_words-w.ensures
