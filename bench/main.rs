@@ -1,5 +1,6 @@
-//! Measures each step of the archive against the same rules in C and in the tests' Rust model, on a small and on the largest table, and
-//! prints a table. Before a case is measured, the archive's and the C's answers and all words left are compared with the model's.
+//! Measures each step of the archive against the same rules in C and in the tests' Rust model, on a small table, on one for a dozen loggers
+//! and a writer, and on the largest, and prints a table. Before a case is measured, the archive's and the C's answers and all words left are
+//! compared with the model's.
 
 #[path = "../tests/compare/model.rs"]
 #[allow(dead_code, reason = "the tests use all of the model, the measuring a part")]
@@ -303,8 +304,11 @@ fn report_schedules() {
 
 fn main() {
     let small = Sizes { tasks: 2, blocks: 4, slots: 1, makes_per_epoch: 2, retirements_per_sweep: 1024 };
+    let dozen = Sizes { tasks: 13, blocks: 64, slots: 8, ..small };
     let largest = Sizes { tasks: 32, blocks: 1024, slots: 256, ..small };
     report("A small table (2 tasks, 4 blocks, 1 slot), the same for each call", small, 1);
+    report("A dozen loggers and a writer (13 tasks, 64 blocks, 8 slots), the same for each call", dozen, 1);
+    report("A dozen loggers and a writer, another of 32 tables for each call", dozen, 32);
     report("The largest table (32 tasks, 1,024 blocks, 256 slots), the same for each call", largest, 1);
     report("The largest table, another of 32 for each call", largest, 32);
     report_schedules();
