@@ -22,7 +22,8 @@ program zone_night
 
   ! What a zone function that reads answers: the kind, and the minutes where it is 0.
   type, bind(C) :: zone_minutes
-    integer(c_int32_t) :: kind, minutes
+    integer(c_int32_t) :: kind
+    integer(c_int32_t) :: minutes
   end type
 
   interface
