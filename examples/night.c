@@ -69,5 +69,9 @@ int main(void)
     step(END, KAVDRELL_DONE, kavdrell_end(table, words, READER));
     step(SWEEP, KAVDRELL_DONE, kavdrell_sweep(table, words, WRITER));
     step(MAKE, KAVDRELL_DONE, kavdrell_make(table, words, WRITER));
+    if (fflush(stdout) != 0 || ferror(stdout)) {
+        fprintf(stderr, "night: its lines could not be written\n");
+        return EXIT_FAILURE;
+    }
     return 0;
 }
