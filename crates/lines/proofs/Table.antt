@@ -11,14 +11,20 @@ use lib.Pointwise.{pointwise}
 use lib.Seq.{drop-cons}
 use borrow.Author.Tests.{eqb-true, eqb-false}
 use Rattle.std.proofs.lemmas.Bool.Decides.{Decides-eqb}
-use Rattle.std.proofs.lemmas.Option.{MatchOption-at_some, slice_get-get_or}
+use Rattle.std.specs.Prelude.{Option, None}
+use Rattle.std.proofs.lemmas.Option.{MatchOption-at_some, MatchOption-at_none, slice_get-get_or}
 use Rattle.std.proofs.lemmas.Slice.Eq.{slice_eq-Decides}
+use Rattle.schedule.specs.declared.tags.Tag.{Tag}
 use Rattle.schedule.specs.declared.tags.Tag.TheVariants.{Open}
 use Rattle.schedule.specs.declared.tags.TheConstants.Tag.{ALL}
 use Rattle.schedule.specs.Tags.{tag_number}
 use Rattle.schedule.proofs.Faults.{by_test}
-use Rattle.schedule.proofs.TagBytes.{table}
+use Rattle.schedule.proofs.TagBytes.{table, at_none, Found}
 use Rattle.lines.specs.Names.{names, name_of, same, tag_from}
+
+-- a byte that no tag is written as has no name
+pub no_name : (byte : ℕ) {o : Option Tag} → o ≡ None → Found byte o → name_of byte ≡ []
+no_name byte e h = at_none [] names refl byte (MatchOption-at_none _ _ e h)
 
 -- a test that passes just where two words are equal
 refused : (r : Bool) → (r ≡ true → ⊥) → r ≡ false

@@ -1,5 +1,5 @@
 -- The names of the steps. Assumes nothing.
-use Rattle.std.specs.Prelude.{ℕ, suc, Bool, true, false, cond, List, [], ◌∷◌, ◌==◌, get_or}
+use Rattle.std.specs.Prelude.{ℕ, suc, ◌≤◌, ◌≡◌, Bool, true, false, cond, List, [], ◌∷◌, ◌==◌, length, get_or, take}
 
 -- open, start, look, settle, make, swap, retire, sweep, end, tally: tags 1 to 10
 abbrev pub names : List (List ℕ)
@@ -19,6 +19,10 @@ names =
 -- the name of a tag; empty where the tag is unknown
 abbrev pub name_of : (tag : ℕ) → List ℕ
 name_of tag = get_or ([] ∷ names) tag []
+
+-- the first n bytes of a buffer are the name of a tag. The last two parts are stated so that callers have the part of the buffer.
+abbrev pub NameAtStart : (tag n : ℕ) → List ℕ → Type 0
+NameAtStart tag n out = (take n out ≡ name_of tag) × (n ≤ length out) × (n ≡ length (take n out))
 
 -- two words are the same, byte for byte
 abbrev pub same : List ℕ → List ℕ → Bool

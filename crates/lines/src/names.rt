@@ -1,7 +1,7 @@
 // The steps' names, for reading and for printing.
-ghost use Rattle.std.specs.Prelude.{◌≡◌};
+ghost use Rattle.std.specs.Prelude.{◌≡◌, ◌≤◌, length};
 ghost use Rattle.schedule.specs.Tags.{tag_number};
-ghost use Rattle.lines.specs.Names.{name_of, tag_of};
+ghost use Rattle.lines.specs.Names.{name_of, NameAtStart, tag_of};
 ghost use Rattle.lines.specs.Said.{found};
 
 use schedule::tags::Tag;
@@ -22,6 +22,28 @@ pub fn name_of(tag: Tag) -> &'static str
         Tag::End => "end",
         Tag::Tally => "tally",
     }
+}
+
+// How many bytes the name of a byte's tag has; 0 where the byte is no step's.
+pub fn name_length(tag: u8) -> usize
+    ensures { (result ≡ length (name_of tag)) × (result ≤ 6) }
+{
+    match Tag::of(tag) {
+        Some(tag) => name_of(tag).len(),
+        None => 0,
+    }
+}
+
+// Leaves the name of a byte's tag at the start of a buffer, and gives its length.
+pub fn put_name(tag: u8, out: &mut [u8; 6]) -> usize
+    ensures { NameAtStart tag result out.new }
+{
+    let Some(tag) = Tag::of(tag) else {
+        return 0;
+    };
+    let name = name_of(tag).as_bytes();
+    out[..name.len()].copy_from_slice(name);
+    name.len()
 }
 
 // The tag of the step that a word names.

@@ -1,17 +1,16 @@
 -- What is carried out, from an answer on the lent words. Assumes nothing.
-use Prim.Native.Nat.{ℕ, ◌≤◌}
-use mathlib.Core.Path.{◌≡◌, refl, sym, ap, ◌∙◌}
+use Prim.Native.Nat.{ℕ}
+use mathlib.Core.Path.{◌≡◌, refl, sym, ap, ◌∙◌, subst}
 use mathlib.Core.Logic.{◌≢◌}
 use mathlib.Core.Bool.{true, false}
 use mathlib.Core.List.{List, [], ◌∷◌, ◌++◌, map}
 use native.Mathlib.Omega.{arith}
 use lib.Dec.{eqb}
-use lib.ListN.{length, take, drop}
+use lib.ListN.{take, drop}
 use borrow.Author.Tests.{eq-eqb, ne_eqb}
 use Rattle.table.specs.declared.sizes.Sizes.{Sizes}
-use Rattle.table.specs.Soundness.{sized}
-use Rattle.table.specs.Words.{sound, state_of, length_for}
-use Rattle.table.proofs.Tests.{decide, cond_cases}
+use Rattle.table.specs.Words.{sound, state_of}
+use Rattle.table.proofs.Tests.{decide}
 use Rattle.rules.specs.OnTable.{Result, in_words, fits, open_table}
 use Rattle.rules.specs.Calls.{Call, step, tag}
 use Rattle.std.specs.Prelude.{Ok, Err}
@@ -22,14 +21,15 @@ use Rattle.work.specs.declared.answers.Refusal.{Refusal}
 use Rattle.work.specs.declared.answers.Refusal.TheVariants.{Unsound, BadSize, NotThere, WrongPhase, NoSlot, NoBlock, WrongBlock, StillNamed, NoneFree, Exhausted, Unshown}
 use Rattle.reclaim.specs.Promises.{PublicCall, promised}
 use Rattle.reclaim.specs.Promises.PublicCall.{calls}
-use Rattle.reclaim.proofs.Tables.{unsound, on_sound, open_length}
+use Rattle.reclaim.proofs.Tables.{unsound, on_sound}
 use Rattle.schedule.specs.Fields.{Numbers}
 use Rattle.schedule.specs.Tags.{tag_number}
 use Rattle.schedule.specs.Writing.{five_of}
 use Rattle.schedule.specs.declared.Step.{Step}
 use Rattle.schedule.specs.declared.tags.Tag.{Tag}
 use Rattle.schedule.specs.declared.tags.Tag.TheVariants.{Open}
-use Rattle.runner.specs.Running.{Held, held, buffer_length, lent, put_back, carried, Ran, ran, step_of, open_of, opening, asked}
+use Rattle.runner.specs.Running.{Held, held, lent, put_back, carried, ran, step_of, opening, asked}
+use Rattle.runner.specs.declared.Ran.{Ran}
 
 -- each tag's step is the call that has this tag
 pub of_its_tag : (n : Numbers) → map (λ k. tag (step_of k n)) (2 ∷ 3 ∷ 4 ∷ 5 ∷ 6 ∷ 7 ∷ 8 ∷ 9 ∷ 10 ∷ []) ≡ 2 ∷ 3 ∷ 4 ∷ 5 ∷ 6 ∷ 7 ∷ 8 ∷ 9 ∷ 10 ∷ []
@@ -70,6 +70,12 @@ unfolding open_table
 open_done_is_0 t T N P F E r e =
     let kind = ap (λ (o : Result). o.kind) e in
     decide (fits t T N P F E) (λ f. kind ∙ rw f refl) (λ f. absurd (reply_not_2 r (kind ∙ rw f refl)))
+
+pub open_ok_is_0 : (t : List ℕ) (T N P F E : ℕ) {a : Answer} {r : Reply} {u : List ℕ} → a ≡ Ok r → told a u ≡ open_table t T N P F E → kind_of a ≡ 0
+open_ok_is_0 t T N P F E {r = r} {u = u} e h = ap kind_of e ∙ open_done_is_0 t T N P F E r (subst (λ (z : Answer). told z u ≡ open_table t T N P F E) e h)
+
+pub refused_not_0 : {a : Answer} {x : Refusal} → a ≡ Err x → kind_of a ≡ 0 → ⊥
+refused_not_0 {x = x} e z = refusal_not_0 x (ap kind_of (sym e) ∙ z)
 
 -- no words are no table
 none_sound : sound [] ≡ false

@@ -107,3 +107,7 @@ module _ {b : List ℕ} {used : ℕ} (h : Ready (held b used)) (a : Answer) {t :
 
     pub accepted_ready : kind_of a ≡ 0 → (ran_to a (held (t ++ drop m b) m) ≡ carried (held b used) (opening n)) × Ready (held (t ++ drop m b) m)
     accepted_ready k = and_ready b used h (opening n) (accepted b used a t n m of_buffer e k)
+
+-- before an accepted open any buffer of the whole length is ready
+pub not_opened : (b : List ℕ) → length b ≡ buffer_length → Ready (held b 0)
+not_opened b l = record { whole = l; inside = omega arith; table = λ z. absurd (z refl) }

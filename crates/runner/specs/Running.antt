@@ -13,6 +13,7 @@ use Rattle.schedule.specs.Fields.{Numbers}
 use Rattle.schedule.specs.Tags.{tag_number}
 use Rattle.schedule.specs.Writing.{five_of}
 use Rattle.schedule.specs.declared.Step.{Step}
+use Rattle.runner.specs.declared.Ran.{Ran}
 
 -- the program works on a buffer of 4,518 words
 abbrev pub buffer_length : ℕ
@@ -82,11 +83,6 @@ put_back h c r = record { kind = r.kind; value = r.value; after = held (r.table 
 -- a call carried out: its promise on the words that it is lent
 unfoldable pub carried : Held → PublicCall → Carried
 carried h c = put_back h c (promised (take (lent h c) h.buffer) c)
-
--- what a field answered, and how many of the buffer's first words are the table after it
-pub record Ran : Type 0 where
-  pub answer : Answer
-  pub used : ℕ
 
 -- what the code answered and left in the buffer
 abbrev pub ran : Ran → List ℕ → Carried

@@ -10,7 +10,7 @@ ghost use Rattle.rules.specs.Calls.{step};
 ghost use Rattle.work.specs.Answers.{told};
 ghost use Rattle.schedule.specs.Tags.{tag_number};
 ghost use Rattle.schedule.specs.Writing.{five_of};
-ghost use Rattle.runner.specs.Running.{buffer_length, Held, held, Ready, carried, ran_to, step_of, sizes_of, opening, asked};
+ghost use Rattle.runner.specs.Running.{buffer_length, Held, held, Ready, carried, ran, ran_to, step_of, sizes_of, opening, asked};
 
 use numbers::{Block, Slot, Task};
 use schedule::tags::Tag;
@@ -23,6 +23,13 @@ use work::answers::{Answer, Refusal};
 
 // So many words a run has for its table.
 const WORDS: usize = 4518;
+
+// What a field answered, and how many of the buffer's first words are the table after it: 0 before an accepted open.
+#[derive(Clone, Copy)]
+pub struct Ran {
+    pub answer: Answer,
+    pub used: usize,
+}
 
 // A run's buffer, and how many of its first words are the table, 0 before an accepted open: an array and a number, for the project has no heap.
 #[derive(Drop)]
@@ -91,6 +98,37 @@ fn step(table: &mut [u32], field: Step) -> Answer
     }
 }
 
+// Open, on a buffer that is ready: it is lent as many words as its sizes ask for.
+fn open(buffer: &mut [u32], used: usize, sizes: Sizes) -> Ran
+    requires { Ready (held buffer.old used) }
+    ensures carried { ran result buffer.new ≡ carried (held buffer.old used) (opening sizes) }
+    ensures ready { Ready (held buffer.new result.used) }
+{
+    let lent = lent_to_open(sizes);
+    let answer = reclaim::open(&mut buffer[..lent], sizes);
+    match answer {
+        Ok(_) => Ran { answer, used: lent },
+        Err(_) => Ran { answer, used },
+    }
+}
+
+// A field that was read, on a buffer that is ready. A step that is not open is lent the table; before an accepted open there is none.
+pub fn carry_out(buffer: &mut [u32], used: usize, field: Step) -> Ran
+    requires { Ready (held buffer.old used) }
+    ensures carried { ran result buffer.new ≡ carried (held buffer.old used) (asked field) }
+    ensures ready { Ready (held buffer.new result.used) }
+{
+    if field.tag == Tag::Open {
+        return open(buffer, used, sizes_of(field.numbers));
+    }
+    if used == 0 {
+        let answer = Err(Refusal::Unsound);
+        return Ran { answer, used };
+    }
+    let answer = step(&mut buffer[..used], field);
+    Ran { answer, used }
+}
+
 impl Runner {
     // Nothing is opened yet.
     pub fn new() -> Runner
@@ -110,28 +148,13 @@ impl Runner {
         &self.buffer[..self.used]
     }
 
-    // Open.
-    fn open(&mut self, sizes: Sizes) -> Answer
-        ensures carried { ran_to result self.new ≡ carried self.old (opening sizes) }
-        ensures ready { Ready self.new }
-    {
-        let lent = lent_to_open(sizes);
-        let reply = reclaim::open(&mut self.buffer[..lent], sizes)?;
-        self.used = lent;
-        Ok(reply)
-    }
-
-    // A field that was read. A step that is not open is lent the table; before an accepted open there is none.
+    // The same on the buffer of the run.
     pub fn carry_out(&mut self, field: Step) -> Answer
         ensures carried { ran_to result self.new ≡ carried self.old (asked field) }
         ensures ready { Ready self.new }
     {
-        if field.tag == Tag::Open {
-            return self.open(sizes_of(field.numbers));
-        }
-        if self.used == 0 {
-            return Err(Refusal::Unsound);
-        }
-        step(&mut self.buffer[..self.used], field)
+        let ran = carry_out(&mut self.buffer, self.used, field);
+        self.used = ran.used;
+        ran.answer
     }
 }

@@ -3,7 +3,8 @@ use Prim.Native.Nat.{ℕ, zero, suc}
 use mathlib.Core.Path.{◌≡◌, refl, ap, ◌∙◌}
 use native.Mathlib.Omega.{arith}
 use lib.Dec.{ltb}
-use lib.ListN.{get_or-eq_default}
+use mathlib.Core.List.{List, ◌∷◌}
+use lib.ListN.{length, get_or, drop, get_or-eq_default}
 use borrow.Author.Tests.{ltb-true, ltb-false}
 use Rattle.std.specs.Prelude.{Option, Some, None, MatchOption}
 use Rattle.std.specs.List.{slice_get}
@@ -51,12 +52,16 @@ table (suc (suc (suc (suc (suc (suc (suc (suc (suc (suc k)))))))))) = λ tag e. 
 pub found_of : {a b : ℕ} {o p : Option Tag} → a ≡ b → o ≡ p → Found a p → Found b o
 found_of e f h = rw (f, ← e) h
 
-pub unknown : (byte : ℕ) → Unknown byte → length_of byte ≡ 0
-unknown zero none = refl
-unknown (suc k) none =
-    by_test (λ (_ : ℕ). length_of (suc k) ≡ 0) (ltb k 10) {x = 0} {y = 0}
+-- a table that has one entry for each tag behind one for none says of such a byte what it says of none
+pub at_none : {A : Type 0} (d : A) (entries : List A) → length entries ≡ 10 → (byte : ℕ) → Unknown byte → get_or (d ∷ entries) byte d ≡ d
+at_none d entries ten zero none = refl
+at_none d entries ten (suc k) none =
+    by_test (λ (_ : ℕ). get_or (d ∷ entries) (suc k) d ≡ d) (ltb k 10) {x = 0} {y = 0}
     (λ below. absurd (none _ (MatchOption-at_some _ _ _ (slice_get-get_or ALL k Open (ltb-true k 10 below)) (table k))))
-    (λ above. get_or-eq_default lengths 0 {n = suc k} (omega (arith, ltb-false k 10 above)))
+    (λ above. get_or-eq_default (d ∷ entries) d {n = suc k} (omega (arith, ten, ltb-false k 10 above)))
+
+pub unknown : (byte : ℕ) → Unknown byte → length_of byte ≡ 0
+unknown = at_none 0 (drop 1 lengths) refl
 
 -- what a tag says of the byte that it was read from
 pub record ReadFrom (tag : Tag) (byte : ℕ) : Type 0 where

@@ -8,7 +8,7 @@ ghost use Rattle.std.specs.Prelude.{◌≡◌, ◌+◌, ◌*◌, ◌≤◌, ◌<
 ghost use Rattle.schedule.specs.Fields.{number, numbers_of, length_of, fault_kind, field_at};
 ghost use Rattle.schedule.specs.Said.{fault_number, checked, said, FaultAt};
 ghost use Rattle.schedule.specs.Tags.{tag_number};
-ghost use Rattle.schedule.specs.Writing.{five_of};
+ghost use Rattle.schedule.specs.Writing.{count_of, five_of};
 
 use std::{array, fmt};
 use tags::{NUMBER, Tag};
@@ -129,6 +129,16 @@ fn checked_tag(schedule: &[u8], at: usize) -> Result<Tag, FaultKind>
         return Err(FaultKind::CutShort);
     }
     Ok(tag)
+}
+
+// How many numbers a byte's tag has: 0 where the byte is no step's.
+pub fn count_of(tag: u8) -> usize
+    ensures { (result ≡ count_of tag) × (result ≤ 5) }
+{
+    match Tag::of(tag) {
+        Some(tag) => tag.count(),
+        None => 0,
+    }
 }
 
 // What stands at a place of a schedule: nothing at its end, a whole field, or a fault.
