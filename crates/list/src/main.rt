@@ -10,7 +10,7 @@ use streams::{read_full, unless_left};
 
 // Prints a step's name, and the numbers that it has, each after a space.
 fn print_step(rt: &impl Print, step: Step) -> io::Result<()> {
-    rt.print(name_of(step.tag))?;
+    rt.write_all(name_of(step.tag).as_bytes())?;
     for number in &step.numbers[..step.tag.count()] {
         print!(rt; " {number}")?;
     }

@@ -15,10 +15,13 @@ fn unmet(table: &[u32], b: BlockRecord) -> bool
     requires { Exact table.now }
     ensures { result ≡ unmet (state_of table.now).tasks (block_row b) }
 {
-    !(0..tasks(table)).any(|i| {
+    for i in 0..tasks(table) {
         let interval = task_words(table, Task(i)).interval;
-        Epoch::meets(interval, b.birth, b.retire)
-    })
+        if Epoch::meets(interval, b.birth, b.retire) {
+            return false;
+        }
+    }
+    true
 }
 
 // Whether a sweep of the task frees the block. The intervals are read only for a block that the task has retired.
