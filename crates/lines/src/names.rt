@@ -24,7 +24,7 @@ pub fn name_of(tag: Tag) -> &'static str
     }
 }
 
-// How many bytes the name of a byte's tag has; 0 where the byte is no step's.
+// How many bytes the name of a byte's tag has, for callers that have a byte and no `Tag`: 0 where the byte is no step's.
 pub fn name_length(tag: u8) -> usize
     ensures { (result ≡ length (name_of tag)) × (result ≤ 6) }
 {
@@ -34,7 +34,7 @@ pub fn name_length(tag: u8) -> usize
     }
 }
 
-// Leaves the name of a byte's tag at the start of a buffer, and gives its length.
+// Leaves the name of a byte's tag at the start of a buffer, for the same callers, and gives its length.
 pub fn put_name(tag: u8, out: &mut [u8; 6]) -> usize
     ensures { NameAtStart tag result out.new }
 {

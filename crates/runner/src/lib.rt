@@ -71,7 +71,7 @@ fn lent_to_open(sizes: Sizes) -> usize
     }
 }
 
-// A step that is not open, on a table that is known to be sound. Not inlined: within a program's `main` a sweep took up to 1.7 times as long, by
+// A step that is not open, on a table that is known to be sound. Not inlined: within a program's `main` a sweep took up to 1.9 times as long, by
 // where its loop came to lie.
 #[inline(never)]
 #[tactic(auto, unfolding(crate::specs::Running::step_of))]
@@ -100,7 +100,7 @@ fn step(table: &mut [u32], field: Step) -> Answer
     }
 }
 
-// Open, on a buffer that is ready: it is lent as many words as its sizes ask for.
+// Open, on a buffer that is ready: refused, it leaves the earlier table.
 fn open(buffer: &mut [u32], used: usize, sizes: Sizes) -> Ran
     requires { Ready (held buffer.old used) }
     ensures carried { ran result buffer.new ≡ carried (held buffer.old used) (opening sizes) }
@@ -114,7 +114,8 @@ fn open(buffer: &mut [u32], used: usize, sizes: Sizes) -> Ran
     }
 }
 
-// A field that was read, on a buffer that is ready. A step that is not open is lent the table; before an accepted open there is none.
+// A field that was read, on a buffer that is ready and lent by the caller. A step that is not open is lent the table; before an accepted open
+// there is none.
 pub fn carry_out(buffer: &mut [u32], used: usize, field: Step) -> Ran
     requires { Ready (held buffer.old used) }
     ensures carried { ran result buffer.new ≡ carried (held buffer.old used) (asked field) }
@@ -150,7 +151,7 @@ impl Runner {
         &self.buffer[..self.used]
     }
 
-    // The same on the buffer of the run.
+    // A field that was read, on the run's own buffer.
     pub fn carry_out(&mut self, field: Step) -> Answer
         ensures carried { ran_to result self.new ≡ carried self.old (asked field) }
         ensures ready { Ready self.new }

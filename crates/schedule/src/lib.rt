@@ -131,7 +131,7 @@ fn checked_tag(schedule: &[u8], at: usize) -> Result<Tag, FaultKind>
     Ok(tag)
 }
 
-// How many numbers a byte's tag has: 0 where the byte is no step's.
+// How many numbers a byte's tag has, for callers that have a byte and no `Tag`: 0 where the byte is no step's.
 pub fn count_of(tag: u8) -> usize
     ensures { (result ≡ count_of tag) × (result ≤ 5) }
 {
